@@ -1,0 +1,9 @@
+pub mod Checked
+pub mod Hints
+pub mod Keys
+pub mod Pieces
+pub mod Separated
+pub mod Universe
+pub mod Unseparated
+pub mod Verdicts
+pub mod Walks

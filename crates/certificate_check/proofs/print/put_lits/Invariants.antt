@@ -1,0 +1,7 @@
+use Rattle.std.proofs.Common.{◌≡◌, ◌++◌, drop}
+use Rattle.std.specs.List.{flat_map}
+use Rattle.certificate_check.specs.Printed.{lit_text}
+use Rattle.certificate_check.proofs.print.put_lits.Given as goal
+
+abbrev pub invariant-loop-lit : goal.invariant-loop-lit
+invariant-loop-lit l = l.out ++ flat_map lit_text (drop l.lit-index l.lits) ≡ l.fn.out ++ flat_map lit_text l.lits

@@ -1,0 +1,4 @@
+pub mod Steps
+pub mod LastOp
+pub mod Kept
+pub mod Whole

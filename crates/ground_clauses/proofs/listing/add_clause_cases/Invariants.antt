@@ -1,0 +1,8 @@
+use Rattle.std.proofs.Common.{◌≡◌, ◌++◌}
+use Rattle.ground_clauses.specs.Cases.{clause_targets}
+use Rattle.ground_clauses.specs.Listing.{touched_of}
+use Rattle.ground_clauses.proofs.Shapes.{clauses_from}
+use Rattle.ground_clauses.proofs.listing.add_clause_cases.Given as goal
+
+abbrev pub invariant-loop-place : goal.invariant-loop-place
+invariant-loop-place l = l.found ++ touched_of l.spec l.a l.b (clauses_from l.spec l.place) ≡ l.fn.found ++ touched_of l.spec l.a l.b (clause_targets 0 l.spec.clauses)

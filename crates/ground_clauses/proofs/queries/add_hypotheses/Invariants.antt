@@ -1,0 +1,7 @@
+use Rattle.std.proofs.Common.{◌≡◌, ◌++◌, drop}
+use Rattle.std.specs.List.{flat_map}
+use Rattle.ground_clauses.specs.Asking.{instance_clauses}
+use Rattle.ground_clauses.proofs.queries.add_hypotheses.Given as goal
+
+abbrev pub invariant-loop-instance : goal.invariant-loop-instance
+invariant-loop-instance l = l.clauses ++ flat_map (instance_clauses l.asked) (drop l.instance-index l.instances) ≡ l.fn.clauses ++ flat_map (instance_clauses l.asked) l.instances

@@ -1,0 +1,10 @@
+pub mod Asking
+pub mod Bits
+pub mod Cases
+pub mod Derivations
+pub mod Instances
+pub mod Laws
+pub mod Listing
+pub mod Literals
+pub mod Numbering
+pub mod Query

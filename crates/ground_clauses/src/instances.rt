@@ -1,0 +1,236 @@
+//! The hypotheses of a query: the clauses at classes that meet its target.
+
+ghost use Rattle.std.specs.Prelude.{◌≡◌, ◌<◌, ◌≤◌, ◌+◌, ◌++◌, ◌&&◌, length, map, filter, IfOk, OnOk, OnErr};
+ghost use Rattle.std.specs.List.{list_any, flat_map, AllByRecursion};
+ghost use Rattle.spec_model.specs.Fits.{IsWellFormed};
+ghost use Rattle.spec_model.specs.Truths as truths;
+ghost use Rattle.ground_clauses.specs.Cases as cases;
+ghost use Rattle.ground_clauses.specs.Cases.{CaseKnown};
+ghost use Rattle.ground_clauses.specs.Instances.{atoms_at, atoms_in, clause_instances, found_from, instance_of, is_shared, meets};
+ghost use Rattle.ground_clauses.specs.Query as queries;
+
+use crate::case::Case;
+use crate::literals::same_atom;
+use crate::pattern::{class_count, pattern_sorts};
+use crate::places::clause_at;
+use crate::touched::{equalities_true, target_classes, values};
+use ind_base::{List, NoMemory};
+use spec_model::{Args, Atom, Clause, Literal, Spec, Var};
+use std::alloc::Global;
+
+/// A clause of the specification at classes.
+#[derive(Clone, Copy, Debug)]
+pub(crate) struct Instance<'a> {
+    pub(crate) clause: &'a Clause,
+    pub(crate) classes: Args,
+}
+
+/// Whether an atom is among these.
+pub(crate) fn atom_among(atom: &Atom, atoms: &[Atom]) -> bool
+    ensures { result ≡ list_any (queries.same_atom atom.now) atoms.now }
+{
+    for other in atoms {
+        if same_atom(atom, other) {
+            return true;
+        }
+    }
+    false
+}
+
+/// Appends the atoms of these literals at the classes.
+#[tactic(auto, using(crate::proofs::Building::atoms_step))]
+fn add_atoms(literals: &[Literal], classes: &[u32], atoms: &mut List<Atom>) -> Result<(), NoMemory>
+    ensures { OnOk result (atoms.new ≡ atoms.old ++ atoms_at classes.now literals.now) }
+{
+    for literal in literals {
+        if let Literal::Atom { pred, vars } = literal {
+            let args = values(classes, vars);
+            atoms.push(Atom { pred: *pred, args })?;
+        }
+    }
+    Ok(())
+}
+
+/// Appends the atoms of a clause at classes.
+#[tactic(auto, using(crate::proofs::Building::instance_atoms_parts))]
+pub(crate) fn add_clause_atoms(
+    clause: &Clause,
+    classes: &[u32],
+    atoms: &mut List<Atom>,
+) -> Result<(), NoMemory>
+    ensures { OnOk result (atoms.new ≡ atoms.old ++ queries.instance_atoms (cases.over clause.now classes.now)) }
+{
+    add_atoms(clause.premise.as_slice(), classes, atoms)?;
+    add_atoms(clause.conclusion.as_slice(), classes, atoms)?;
+    Ok(())
+}
+
+/// Whether a literal, at the classes, is one of the target's atoms.
+fn shares(target: &[Atom], literal: &Literal, classes: &[u32]) -> bool
+    ensures { result ≡ is_shared target.now classes.now literal.now }
+{
+    match literal {
+        Literal::Atom { pred, vars } => {
+            let args = values(classes, vars);
+            atom_among(&Atom { pred: *pred, args }, target)
+        }
+        Literal::Equal { .. } => false,
+    }
+}
+
+/// Whether some of these literals, at the classes, is one of the target's atoms.
+fn shares_any(target: &[Atom], literals: &[Literal], classes: &[u32]) -> bool
+    ensures { result ≡ list_any (is_shared target.now classes.now) literals.now }
+{
+    for literal in literals {
+        if shares(target, literal, classes) {
+            return true;
+        }
+    }
+    false
+}
+
+/// Whether the clause at the classes meets one of the target's atoms, and isn't true by equalities.
+#[tactic(auto, using(crate::proofs::Building::meets_parts))]
+fn meets_target(target: &[Atom], clause: &Clause, classes: &[u32]) -> bool
+    ensures { result ≡ meets target.now (cases.over clause.now classes.now) }
+{
+    (shares_any(target, clause.premise.as_slice(), classes)
+        || shares_any(target, clause.conclusion.as_slice(), classes))
+        && !equalities_true(clause, classes)
+}
+
+/// What the hypotheses of a case are looked for by: the pattern's sorts and classes, and the atoms
+/// of the target.
+#[derive(Clone, Copy, Debug)]
+pub(crate) struct Search<'a> {
+    pub(crate) sorts: &'a [u32],
+    pub(crate) classes: &'a [u32],
+    pub(crate) target: &'a [Atom],
+}
+
+/// Appends the instances of a clause that meet the target, whose first classes are these.
+#[tactic(auto, using(crate::proofs::Finding::found_end, crate::proofs::Finding::found_each, crate::proofs::Finding::found_more))]
+fn add_instances<'a>(
+    search: &Search<'_>,
+    clause: &'a Clause,
+    front: Args,
+    vars: &[Var],
+    found: &mut List<Instance<'a>>,
+) -> Result<(), NoMemory>
+    requires { length front + length vars.now ≤ 4 }
+    ensures { OnOk result (map instance_of found.new ≡ map instance_of found.old ++ found_from search.now clause.now front vars.now) }
+{
+    if vars.is_empty() {
+        if meets_target(search.target, clause, front.as_slice()) {
+            found.push(Instance {
+                clause,
+                classes: front,
+            })?;
+        }
+        return Ok(());
+    }
+    let (head, rest) = vars.split_at(1);
+    let count = class_count(search.sorts, search.classes, head[0].sort);
+    for class in 0..count {
+        let mut longer = front;
+        longer.push(class as u32);
+        add_instances(search, clause, longer, rest, found)?;
+    }
+    Ok(())
+}
+
+/// Appends the instances of a clause that meet the target.
+#[tactic(auto, using(crate::proofs::Finding::found_clause))]
+fn add_clause_instances<'a>(
+    search: &Search<'_>,
+    clause: &'a Clause,
+    found: &mut List<Instance<'a>>,
+) -> Result<(), NoMemory>
+    requires { length clause.now.vars ≤ 4 }
+    ensures { OnOk result (map instance_of found.new ≡ map instance_of found.old ++ clause_instances search.now clause.now) }
+{
+    add_instances(search, clause, Args::new(), clause.vars.as_slice(), found)?;
+    Ok(())
+}
+
+/// The instances of these clauses that meet the target.
+#[tactic(auto, using(crate::proofs::Building::flat_step, crate::proofs::Finding::few_at))]
+fn find_instances<'a>(
+    alloc: Global,
+    search: &Search<'_>,
+    clauses: &'a [Clause],
+) -> Result<List<Instance<'a>>, NoMemory>
+    requires { AllByRecursion (λ c. length c.vars ≤ 4) clauses.now }
+    ensures { IfOk result (λ found. map instance_of found ≡ flat_map (clause_instances search.now) clauses.now) }
+{
+    let mut found = List::new(alloc);
+    for clause in clauses {
+        add_clause_instances(search, clause, &mut found)?;
+    }
+    Ok(found)
+}
+
+/// The hypotheses of the query of a case about this clause.
+#[tactic(auto, using(crate::proofs::Finding::found_all, crate::proofs::Finding::few_vars))]
+pub(crate) fn hypotheses<'a>(
+    alloc: Global,
+    spec: &'a Spec,
+    case: &Case,
+    place: u32,
+) -> Result<List<Instance<'a>>, NoMemory>
+    requires well_formed { IsWellFormed spec.now }
+    requires known { CaseKnown spec.now case.now }
+    requires clause { place < length spec.now.clauses }
+    ensures { IfOk result (λ found. map instance_of found ≡ cases.case_hypotheses spec.now case.now place) }
+{
+    let sorts = pattern_sorts(spec, case.a, case.b, case.target);
+    let mut target = List::new(alloc);
+    add_clause_atoms(
+        clause_at(spec, place),
+        target_classes(spec, case),
+        &mut target,
+    )?;
+    let search = Search {
+        sorts: sorts.as_slice(),
+        classes: case.classes.as_slice(),
+        target: target.as_slice(),
+    };
+    let found = find_instances(alloc, &search, spec.clauses.as_slice())?;
+    Ok(found)
+}
+
+/// Appends the atoms of these instances.
+#[tactic(auto, using(crate::proofs::Finding::instance_step))]
+fn add_instance_atoms(instances: &[Instance<'_>], atoms: &mut List<Atom>) -> Result<(), NoMemory>
+    ensures { OnOk result (atoms.new ≡ atoms.old ++ atoms_in instances.now) }
+{
+    for instance in instances {
+        add_clause_atoms(instance.clause, instance.classes.as_slice(), atoms)?;
+    }
+    Ok(())
+}
+
+/// Each atom once, where it stands first.
+#[tactic(auto, using(crate::proofs::Building::atoms_once_step))]
+fn once(alloc: Global, atoms: &[Atom]) -> Result<List<Atom>, NoMemory>
+    ensures { IfOk result (λ once. once ≡ queries.dedup queries.same_atom atoms.now) }
+{
+    let mut once = List::new(alloc);
+    for atom in atoms {
+        if !atom_among(atom, once.as_slice()) {
+            once.push(*atom)?;
+        }
+    }
+    Ok(once)
+}
+
+/// The atoms of these instances by their first appearance.
+#[tactic(auto, using(crate::proofs::Finding::atoms_in_all))]
+pub(crate) fn atoms_of(alloc: Global, instances: &[Instance<'_>]) -> Result<List<Atom>, NoMemory>
+    ensures { IfOk result (λ atoms. atoms ≡ queries.atoms_of (map instance_of instances.now)) }
+{
+    let mut all = List::new(alloc);
+    add_instance_atoms(instances, &mut all)?;
+    once(alloc, all.as_slice())
+}

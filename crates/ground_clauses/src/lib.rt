@@ -1,0 +1,26 @@
+//! Cases of pairs of operations, their queries, and what a right derivation shows of them.
+#![tactic(auto)]
+
+mod case;
+mod clauses;
+mod instances;
+mod laws;
+mod listing;
+mod literals;
+mod pattern;
+mod places;
+mod queries;
+mod reach;
+mod state_lit;
+mod table;
+mod touched;
+mod walk;
+
+pub use case::{Case, Target};
+pub use clauses::{Cnf, Derivation, Lit, Step};
+pub use laws::{case_keeps, has_its_case, no_model, refuted_holds};
+pub use listing::cases;
+pub use queries::query;
+pub use reach::has_bit;
+pub use touched::{first_class, second_class};
+pub use walk::Cases;

@@ -1,0 +1,144 @@
+//! The table of four states, at the atoms of a case.
+
+ghost use Rattle.std.specs.Prelude.{◌≡◌, length};
+ghost use Rattle.spec_model.specs.Stable as stable;
+ghost use Rattle.spec_model.specs.Truths as truths;
+ghost use Rattle.ground_clauses.specs.Cases as cases;
+ghost use Rattle.ground_clauses.specs.Cases.{CaseKnown};
+ghost use Rattle.ground_clauses.specs.Query as queries;
+
+use crate::case::Case;
+use crate::state_lit::{Form, StateLit, Variable};
+use crate::touched::{class_at, first_sets, second_sets, values};
+use spec_model::{Atom, Entry, Literal, Moment, Rule, Spec, Touch};
+
+/// Whether the winning value of a rule is true.
+fn rule_wins(rule: Rule) -> bool
+    ensures { result ≡ truths.rule_wins rule }
+{
+    match rule {
+        Rule::AddWins | Rule::Locked => true,
+        Rule::RemoveWins => false,
+    }
+}
+
+/// The winning value of a predicate's atoms.
+#[tactic(auto, using(crate::proofs::Reaches::past_end))]
+pub(crate) fn winner(spec: &Spec, pred: u32) -> bool
+    ensures { result ≡ truths.wins spec.now pred }
+{
+    let preds = spec.preds.as_slice();
+    if (pred as usize) < preds.len() {
+        rule_wins(preds[pred as usize].rule)
+    } else {
+        true
+    }
+}
+
+/// What setting an atom is, by the value that wins there.
+fn touch_of(wins: bool, set: Option<bool>) -> Touch
+    ensures { result ≡ stable.touch_of wins set }
+{
+    match set {
+        None => Touch::Leaves,
+        Some(value) => if value == wins {
+            Touch::Wins
+        } else {
+            Touch::Loses
+        },
+    }
+}
+
+/// The entry of the table for a state, by what the two instances do to the atom.
+fn entry(first: Touch, second: Touch, moment: Moment) -> Entry
+    ensures { result ≡ stable.entry first second moment }
+{
+    match (moment, first, second) {
+        (Moment::First, Touch::Wins, _)
+        | (Moment::Second, _, Touch::Wins)
+        | (Moment::Both, Touch::Wins, _)
+        | (Moment::Both, _, Touch::Wins) => Entry::Always,
+        (Moment::First, Touch::Loses, _) | (Moment::Both, Touch::Loses, Touch::Leaves) => {
+            Entry::Same(Moment::First)
+        }
+        (Moment::Second, _, Touch::Loses) | (Moment::Both, Touch::Leaves, Touch::Loses) => {
+            Entry::Same(Moment::Second)
+        }
+        (Moment::Both, Touch::Loses, Touch::Loses) => Entry::Same(Moment::Both),
+        _ => Entry::Same(Moment::Start),
+    }
+}
+
+/// What the two operations of a case do to an atom.
+pub(crate) fn touch_first(spec: &Spec, case: &Case, atom: &Atom) -> Touch
+    requires { CaseKnown spec.now case.now }
+    ensures { result ≡ stable.touch_of (queries.winner spec.now atom.now) ((cases.case_sets spec.now case.now).one atom.now.pred atom.now.args) }
+{
+    touch_of(
+        winner(spec, atom.pred),
+        first_sets(spec, case, atom.pred, atom.args.as_slice()),
+    )
+}
+
+/// What the second operation of a case does to an atom.
+pub(crate) fn touch_second(spec: &Spec, case: &Case, atom: &Atom) -> Touch
+    requires { CaseKnown spec.now case.now }
+    ensures { result ≡ stable.touch_of (queries.winner spec.now atom.now) ((cases.case_sets spec.now case.now).other atom.now.pred atom.now.args) }
+{
+    touch_of(
+        winner(spec, atom.pred),
+        second_sets(spec, case, atom.pred, atom.args.as_slice()),
+    )
+}
+
+/// The table's entry for an atom in a state.
+pub(crate) fn entry_at(spec: &Spec, case: &Case, atom: &Atom, moment: Moment) -> Entry
+    requires { CaseKnown spec.now case.now }
+    ensures { result ≡ queries.entry_at spec.now (cases.case_sets spec.now case.now) atom.now moment }
+{
+    entry(
+        touch_first(spec, case, atom),
+        touch_second(spec, case, atom),
+        moment,
+    )
+}
+
+/// A case, seen in one of the four states.
+#[derive(Clone, Copy, Debug)]
+pub(crate) struct View<'a> {
+    pub(crate) spec: &'a Spec,
+    pub(crate) case: &'a Case,
+    pub(crate) moment: Moment,
+}
+
+/// An atom with this truth, in a state.
+fn atom_form(view: &View<'_>, sign: bool, atom: Atom) -> Form
+    requires { CaseKnown view.now.spec.now view.now.case.now }
+    ensures { result ≡ queries.atom_form view.now.spec.now sign atom (queries.entry_at view.now.spec.now (cases.case_sets view.now.spec.now view.now.case.now) atom view.now.moment) }
+{
+    let yes = winner(view.spec, atom.pred) == sign;
+    match entry_at(view.spec, view.case, &atom, view.moment) {
+        Entry::Always => Form::Constant(yes),
+        Entry::Same(moment) => {
+            let var = Variable { atom, moment };
+            Form::Open(StateLit { var, yes })
+        }
+    }
+}
+
+/// A literal with this truth, at classes, in a state.
+pub(crate) fn literal_form(view: &View<'_>, sign: bool, literal: &Literal, classes: &[u32]) -> Form
+    requires { CaseKnown view.now.spec.now view.now.case.now }
+    ensures { result ≡ queries.literal_form view.now.spec.now (cases.case_sets view.now.spec.now view.now.case.now) view.now.moment classes.now sign literal.now }
+{
+    match literal {
+        Literal::Atom { pred, vars } => {
+            let args = values(classes, vars);
+            atom_form(view, sign, Atom { pred: *pred, args })
+        }
+        Literal::Equal { left, right } => {
+            let equal = class_at(classes, *left) == class_at(classes, *right);
+            Form::Constant(equal == sign)
+        }
+    }
+}

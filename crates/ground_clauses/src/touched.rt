@@ -1,0 +1,215 @@
+//! Which cases are touched.
+
+ghost use Rattle.std.specs.Prelude.{◌≡◌, ◌<◌, ◌&&◌, take, drop, length, get_or};
+ghost use Rattle.std.specs.List.{list_any};
+ghost use Rattle.spec_model.specs.Truths as truths;
+ghost use Rattle.ground_clauses.specs.Cases as cases;
+ghost use Rattle.ground_clauses.specs.Query as queries;
+ghost use Rattle.ground_clauses.specs.Cases.{CaseKnown};
+ghost use Rattle.ground_clauses.specs.Literals.{is_set, sets_of};
+
+use crate::case::{Case, Target};
+use crate::places::{clause_at, op_at};
+use crate::reach::{op_sets, plain_class};
+use spec_model::{Args, Clause, Literal, Op, Spec, Var};
+
+/// How many of these parameters are plain.
+pub(crate) fn plain_count(params: &[Var]) -> usize
+    ensures { result ≡ length (cases.plain_sorts params.now) }
+{
+    let mut count = 0;
+    for param in params {
+        if !param.interval {
+            count += 1;
+        }
+    }
+    count
+}
+
+/// The first numbers, at most so many, and the rest.
+pub(crate) fn split_front(numbers: &[u32], count: usize) -> (&[u32], &[u32])
+    ensures front { result.0.now ≡ take count numbers.now }
+    ensures back { result.1.now ≡ drop count numbers.now }
+{
+    numbers.split_at(count.min(numbers.len()))
+}
+
+/// The classes of these variables.
+pub(crate) fn values(classes: &[u32], vars: &Args) -> Args
+    ensures { result ≡ truths.values classes.now vars.now }
+{
+    let mut out = Args::new();
+    for var in vars.as_slice() {
+        out.push(classes.get(*var as usize).copied().unwrap_or(0));
+    }
+    out
+}
+
+/// What the first operation of a case sets an atom to.
+pub(crate) fn first_sets(spec: &Spec, case: &Case, pred: u32, args: &[u32]) -> Option<bool>
+    requires { CaseKnown spec.now case.now }
+    ensures { result ≡ (cases.case_sets spec.now case.now).one pred args.now }
+{
+    let op = op_at(spec, case.a);
+    let (front, _) = split_front(case.classes.as_slice(), plain_count(op.params.as_slice()));
+    op_sets(op, front, case.bits_a, pred, args)
+}
+
+/// What the second operation of a case sets an atom to.
+pub(crate) fn second_sets(spec: &Spec, case: &Case, pred: u32, args: &[u32]) -> Option<bool>
+    requires { CaseKnown spec.now case.now }
+    ensures { result ≡ (cases.case_sets spec.now case.now).other pred args.now }
+{
+    let op = op_at(spec, case.b);
+    let skipped = plain_count(op_at(spec, case.a).params.as_slice());
+    let (_, rest) = split_front(case.classes.as_slice(), skipped);
+    let (front, _) = split_front(rest, plain_count(op.params.as_slice()));
+    op_sets(op, front, case.bits_b, pred, args)
+}
+
+/// The class of a plain parameter, by its place, of a case's first operation.
+pub fn first_class(spec: &Spec, case: &Case, place: u32) -> Option<u32>
+    requires { CaseKnown spec.now case.now }
+    ensures { result ≡ cases.class_a spec.now case.now place }
+{
+    let params = op_at(spec, case.a).params.as_slice();
+    let (front, _) = split_front(case.classes.as_slice(), plain_count(params));
+    plain_class(params, front, place as usize)
+}
+
+/// The class of a plain parameter, by its place, of a case's second operation.
+pub fn second_class(spec: &Spec, case: &Case, place: u32) -> Option<u32>
+    requires { CaseKnown spec.now case.now }
+    ensures { result ≡ cases.class_b spec.now case.now place }
+{
+    let params = op_at(spec, case.b).params.as_slice();
+    let skipped = plain_count(op_at(spec, case.a).params.as_slice());
+    let (_, rest) = split_front(case.classes.as_slice(), skipped);
+    let (front, _) = split_front(rest, plain_count(params));
+    plain_class(params, front, place as usize)
+}
+
+/// The classes of the target's variables.
+pub(crate) fn target_classes<'a>(spec: &Spec, case: &'a Case) -> &'a [u32]
+    requires { CaseKnown spec.now case.now }
+    ensures { result.now ≡ cases.target_classes spec.now case.now }
+{
+    let first = plain_count(op_at(spec, case.a).params.as_slice());
+    let second = plain_count(op_at(spec, case.b).params.as_slice());
+    let (_, rest) = split_front(case.classes.as_slice(), first);
+    let (_, target) = split_front(rest, second);
+    target
+}
+
+/// One of the two operations of a case.
+#[derive(Clone, Copy, Debug)]
+enum Side {
+    One,
+    Other,
+}
+
+/// What this operation of a case sets an atom to.
+fn side_sets(spec: &Spec, case: &Case, side: Side, pred: u32, args: &[u32]) -> Option<bool>
+    requires { CaseKnown spec.now case.now }
+    ensures { result ≡ sets_of (cases.case_sets spec.now case.now) side pred args.now }
+{
+    match side {
+        Side::One => first_sets(spec, case, pred, args),
+        Side::Other => second_sets(spec, case, pred, args),
+    }
+}
+
+/// Whether some of these literals is an atom that this operation of the case sets.
+fn sets_any(spec: &Spec, case: &Case, side: Side, literals: &[Literal], classes: &[u32]) -> bool
+    requires { CaseKnown spec.now case.now }
+    ensures { result ≡ list_any (is_set (sets_of (cases.case_sets spec.now case.now) side) classes.now) literals.now }
+{
+    for literal in literals {
+        if let Literal::Atom { pred, vars } = literal {
+            let args = values(classes, vars);
+            if side_sets(spec, case, side, *pred, args.as_slice()).is_some() {
+                return true;
+            }
+        }
+    }
+    false
+}
+
+/// Whether this operation of the case touches the clause at the classes.
+#[tactic(auto, using(crate::proofs::Parts::touches_parts))]
+fn touches(spec: &Spec, case: &Case, side: Side, clause: &Clause, classes: &[u32]) -> bool
+    requires { CaseKnown spec.now case.now }
+    ensures { result ≡ cases.touches (sets_of (cases.case_sets spec.now case.now) side) (cases.over clause.now classes.now) }
+{
+    sets_any(spec, case, side, clause.premise.as_slice(), classes)
+        || sets_any(spec, case, side, clause.conclusion.as_slice(), classes)
+}
+
+/// The class of the variable at this place.
+pub(crate) fn class_at(classes: &[u32], place: u32) -> u32
+    ensures { result ≡ get_or classes.now place 0 }
+{
+    classes.get(place as usize).copied().unwrap_or(0)
+}
+
+/// Whether some of these literals is an equality that has this truth at the classes.
+fn equality_has(literals: &[Literal], sign: bool, classes: &[u32]) -> bool
+    ensures { result ≡ list_any (cases.equality_holds classes.now sign) literals.now }
+{
+    for literal in literals {
+        if let Literal::Equal { left, right } = literal {
+            let equal = class_at(classes, *left) == class_at(classes, *right);
+            if equal == sign {
+                return true;
+            }
+        }
+    }
+    false
+}
+
+/// Whether the equalities of a clause make it true at these classes.
+#[tactic(auto, using(crate::proofs::Parts::equalities_parts))]
+pub(crate) fn equalities_true(clause: &Clause, classes: &[u32]) -> bool
+    ensures { result ≡ cases.equalities_true (cases.over clause.now classes.now) }
+{
+    equality_has(clause.premise.as_slice(), false, classes)
+        || equality_has(clause.conclusion.as_slice(), true, classes)
+}
+
+/// Whether both operations touch the clause, and its equalities don't make it true.
+fn clause_touched(spec: &Spec, case: &Case, place: u32) -> bool
+    requires known { CaseKnown spec.now case.now }
+    requires clause { place < length spec.now.clauses }
+    ensures { result ≡ cases.is_touched spec.now case.now place }
+{
+    let clause = clause_at(spec, place);
+    let classes = target_classes(spec, case);
+    touches(spec, case, Side::One, clause, classes)
+        && touches(spec, case, Side::Other, clause, classes)
+        && !equalities_true(clause, classes)
+}
+
+/// Whether the two operations give the locked predicate's atom opposite truths.
+fn opposes(spec: &Spec, case: &Case, pred: u32) -> bool
+    requires { CaseKnown spec.now case.now }
+    ensures { result ≡ cases.opposes spec.now case.now pred }
+{
+    let classes = target_classes(spec, case);
+    let first = first_sets(spec, case, pred, classes);
+    let second = second_sets(spec, case, pred, classes);
+    match (first, second) {
+        (Some(first), Some(second)) => first != second,
+        _ => false,
+    }
+}
+
+/// Whether a case is touched; of a locked predicate, whether it opposes.
+pub(crate) fn is_touched(spec: &Spec, case: &Case) -> bool
+    requires { CaseKnown spec.now case.now }
+    ensures { result ≡ cases.is_touched_case spec.now case.now }
+{
+    match case.target {
+        Target::Clause(clause) => clause_touched(spec, case, clause),
+        Target::Locked(pred) => opposes(spec, case, pred),
+    }
+}

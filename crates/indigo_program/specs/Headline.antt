@@ -1,0 +1,154 @@
+-- What the program answers.
+use Rattle.std.specs.Prelude.{◌≡◌, ◌⊎◌, ℕ, ◌+◌, ◌≤◌, ◌<◌, List, [], ◌∷◌, ◌++◌, length, codes, decimal, Result, Ok, Err, Some}
+use Rattle.std.specs.declared.option.Option.{Option}
+use Rattle.std.specs.Io.KnownBytes.{Appends, Consumes, IsAtEnd, Keeps}
+use Rattle.ind_io.specs.Causes.{Rose}
+use Rattle.ind_io.specs.Streams.{ConsumesJust}
+use Rattle.spec_model.specs.declared.plan.Plan.{Plan}
+use Rattle.spec_model.specs.declared.plan.Setup.{Setup}
+use Rattle.run_model.specs.declared.step.Order.{Order}
+use Rattle.run_model.specs.declared.step.StepEntry.{StepEntry}
+use Rattle.run_model.specs.Worlds.{World}
+use Rattle.run_model.specs.Runs.{IsLegal}
+use Rattle.run_model.specs.Balance.{AtEachStep, IsSound}
+use Rattle.run_model.specs.Trace.{trace_text}
+use Rattle.counter_document.specs.declared.document.Document.{Document}
+use Rattle.counter_document.specs.Reading.{document_of as counter_of}
+use Rattle.line_text.specs.declared.cause.Cause.{Cause}
+use Rattle.scenario_text.specs.declared.document.Document.{Document as WholeDocument}
+use Rattle.scenario_text.specs.Reading.{document_of}
+use Rattle.scenario_text.specs.Saying.{document_text}
+use Rattle.indigo_program.specs.declared.command.Command.{Command}
+use Rattle.indigo_program.specs.declared.command.Command.TheVariants as commands
+use Rattle.indigo_program.specs.CauseTexts.{cause_text}
+
+-- a plan without reservations
+abbrev pub no_plan : Plan
+no_plan = record { locks = []; masks = []; parts = [] }
+
+-- what the replicas of a document agree on
+abbrev pub setup_of : Document → Setup
+setup_of document = record { spec = document.spec; plan = no_plan; replicas = document.replicas }
+
+-- the text is the trace of a legal run of the schedule, which is sound at each step
+pub record IsLegalTrace (setup : Setup) (schedule : List Order) (text : List ℕ) : Type 0 where
+  pub entries : List StepEntry
+  pub world : World
+  pub legal : IsLegal setup schedule entries world
+  pub sound : AtEachStep setup entries (IsSound setup)
+  pub written : text ≡ trace_text setup entries world
+
+-- the bytes are a document with one counter, and the text is the trace of a legal run of it
+pub record IsTrace (bytes text : List ℕ) : Type 0 where
+  pub document : Document
+  pub read : counter_of bytes ≡ Ok document
+  pub trace : IsLegalTrace (setup_of document) document.schedule text
+
+-- the bytes are no such document, and the text names the first line that is refused
+pub record IsRefusal (bytes text : List ℕ) : Type 0 where
+  pub line : ℕ
+  pub read : counter_of bytes ≡ Err line
+  pub written : text ≡ codes "line " ++ decimal line ++ codes ": unknown line\n"
+
+-- the bytes are a document, and the text is its canonical one
+pub record IsPrinted (bytes text : List ℕ) : Type 0 where
+  pub document : WholeDocument
+  pub read : document_of bytes ≡ Ok document
+  pub written : text ≡ document_text document
+
+-- the bytes are no document, and the text names the first line that is refused, and its first cause
+pub record IsRefused (bytes text : List ℕ) : Type 0 where
+  pub line : ℕ
+  pub cause : Cause
+  pub read : document_of bytes ≡ Err (line, cause)
+  pub written : text ≡ codes "line " ++ decimal line ++ codes ": " ++ cause_text cause ++ 10 ∷ []
+
+-- the most bytes of an input
+abbrev pub input_limit : ℕ
+input_limit = 4194304
+
+-- a source or a sink at the start and at the end of a call: the bytes that it tells, and how often it has failed
+pub record Stream : Type 0 where
+  pub before : Option (List ℕ)
+  pub after : Option (List ℕ)
+  pub faults_before : ℕ
+  pub faults_after : ℕ
+
+-- it failed in this call
+abbrev pub Failed : Stream → Type 0
+Failed s = Rose s.faults_before s.faults_after
+
+-- the source was read to its end, and this holds of its bytes
+pub record WasRead (source : Stream) (P : List ℕ → Type 0) : Type 0 where
+  pub bytes : List ℕ
+  pub all : Consumes source.before source.after bytes
+  pub end : IsAtEnd source.after
+  pub short : length bytes ≤ input_limit
+  pub holds : P bytes
+
+-- the words of each command
+abbrev pub IsNamed : List (List ℕ) → Command → Type 0
+IsNamed words commands.Simulate = words ≡ codes "simulate" ∷ []
+IsNamed words commands.Print = words ≡ codes "print" ∷ []
+
+-- the status and the text that a command has for an input
+abbrev pub IsAnswerTo : Command → List ℕ → ℕ → List ℕ → Type 0
+IsAnswerTo commands.Simulate bytes status text = ((status ≡ 3) × IsRefusal bytes text) ⊎ ((status ≡ 0) × IsTrace bytes text)
+IsAnswerTo commands.Print bytes status text = ((status ≡ 3) × IsRefused bytes text) ⊎ ((status ≡ 0) × IsPrinted bytes text)
+
+-- the status and the text for an input that came: it failed, was too long, or was read
+abbrev pub IsReplyOf : Command → Stream → ℕ → List ℕ → Type 0
+IsReplyOf command source status text =
+    ((status ≡ 4) × (text ≡ codes "read fault\n") × Failed source)
+    ⊎ ((status ≡ 6) × (text ≡ codes "input too long\n") × ConsumesJust source.before source.after (input_limit + 1))
+    ⊎ WasRead source (λ bytes. IsAnswerTo command bytes status text)
+
+-- the status and the text for words and an input
+abbrev pub IsReply : List (List ℕ) → Stream → ℕ → List ℕ → Type 0
+IsReply words source status text =
+    ((status ≡ 2) × (text ≡ codes "bad words\n") × ((command : Command) → IsNamed words command → ⊥))
+    ⊎ ((command : Command) × IsNamed words command × IsReplyOf command source status text)
+
+-- the whole text is out
+pub record IsWritten (words : List (List ℕ)) (source sink : Stream) (status : ℕ) : Type 0 where
+  pub text : List ℕ
+  pub reply : IsReply words source status text
+  pub out : Appends sink.before sink.after text
+
+-- the sink failed, and a front of the text is out
+pub record IsCutOff (words : List (List ℕ)) (source sink : Stream) : Type 0 where
+  pub status : ℕ
+  pub text : List ℕ
+  pub front : List ℕ
+  pub behind : List ℕ
+  pub reply : IsReply words source status text
+  pub failed : Failed sink
+  pub parts : text ≡ front ++ behind
+  pub out : Appends sink.before sink.after front
+
+-- what the program answers: 5 where the sink failed, 9 where memory was wanting for a command and nothing is written, else a reply
+abbrev pub IsAnswered : List (List ℕ) → Stream → Stream → ℕ → Type 0
+IsAnswered words source sink status =
+    IsWritten words source sink status
+    ⊎ ((status ≡ 5) × IsCutOff words source sink)
+    ⊎ ((status ≡ 9) × ((command : Command) × IsNamed words command) × Keeps sink.before sink.after)
+
+-- what is owed to a text that is a document or not: 0 or 3, or want of memory
+abbrev pub OwedTo : {D E : Type 0} → Result D E → ℕ → Type 0
+OwedTo (Ok document) status = (status ≡ 0) ⊎ (status ≡ 9)
+OwedTo (Err refused) status = (status ≡ 3) ⊎ (status ≡ 9)
+
+-- by the documents that the command takes
+abbrev pub OwedBy : Command → List ℕ → ℕ → Type 0
+OwedBy commands.Simulate bytes status = OwedTo (counter_of bytes) status
+OwedBy commands.Print bytes status = OwedTo (document_of bytes) status
+
+-- the answer that is owed to an input that the source tells, where nothing fails: by its words, its length and its lines
+pub record IsOwed (words : List (List ℕ)) (bytes : List ℕ) (status : ℕ) : Type 0 where
+  pub other_words : ((command : Command) → IsNamed words command → ⊥) → status ≡ 2
+  pub long : (command : Command) → IsNamed words command → input_limit < length bytes → (status ≡ 6) ⊎ (status ≡ 9)
+  pub short : (command : Command) → IsNamed words command → length bytes ≤ input_limit → OwedBy command bytes status
+
+abbrev pub IsComplete : List (List ℕ) → Stream → Stream → ℕ → Type 0
+IsComplete words source sink status =
+    (bytes : List ℕ) → source.before ≡ Some bytes → (Failed source → ⊥) → (Failed sink → ⊥) → IsOwed words bytes status

@@ -1,0 +1,4 @@
+pub mod Nodes
+pub mod CauseTexts
+pub mod Headline
+pub mod Finishing

@@ -1,0 +1,13 @@
+//! The program over a source and a sink that are handed in: it reads a document, runs its replicas
+//! and writes the trace.
+#![tactic(auto)]
+
+mod command;
+mod node;
+mod reply;
+mod simulation;
+mod top;
+mod words;
+
+pub use command::Command;
+pub use top::tool;

@@ -1,0 +1,56 @@
+//! The whole program, over a source and a sink that are handed in.
+
+ghost use Rattle.std.specs.Prelude.{map, string_bytes};
+ghost use Rattle.indigo_program.specs.Headline.{IsAnswered, IsComplete};
+ghost use Rattle.indigo_program.specs.Finishing.{Finishes};
+
+use crate::reply::make_reply;
+use crate::words::command_of;
+use ind_io::{ReadAllError, Sink, Source, read_all, write_all};
+use std::alloc::Global;
+
+/// The most bytes of an input.
+const INPUT_LIMIT: usize = 4_194_304;
+
+/// Writes a text, and answers the status, or 5 where the sink failed.
+fn finish<K: Sink>(sink: &mut K, text: &[u8], status: u8) -> u8
+    ensures { Finishes (K.held sink.old) (K.held sink.new) (K.faults sink.old) (K.faults sink.new) text.now status result }
+{
+    match write_all(sink, text) {
+        Ok(()) => status,
+        Err(_) => 5,
+    }
+}
+
+/// Reads an input to its end, decides and writes the answer, whose status it returns.
+///
+/// `simulate` takes a document with one counter and prints the trace of its replicas on its schedule;
+/// `print` takes a document of the whole language and prints its canonical text (0). Other words are
+/// answered `bad words` (2), a text that is no document by its first refused line (3), a source that
+/// fails by `read fault` (4), and more than 4,194,304 bytes by `input too long` (6). A sink that
+/// fails is 5, with a front of the text out. Want of memory is 9, and nothing is written.
+pub fn tool<S: Source, K: Sink>(alloc: Global, words: &[String], source: &mut S, sink: &mut K) -> u8
+    ensures answered { IsAnswered (map string_bytes words.now)
+        (record { before = S.left source.old; after = S.left source.new; faults_before = S.faults source.old; faults_after = S.faults source.new })
+        (record { before = K.held sink.old; after = K.held sink.new; faults_before = K.faults sink.old; faults_after = K.faults sink.new })
+        result }
+    ensures complete { IsComplete (map string_bytes words.now)
+        (record { before = S.left source.old; after = S.left source.new; faults_before = S.faults source.old; faults_after = S.faults source.new })
+        (record { before = K.held sink.old; after = K.held sink.new; faults_before = K.faults sink.old; faults_after = K.faults sink.new })
+        result }
+{
+    let command = match command_of(words) {
+        Some(command) => command,
+        None => return finish(sink, b"bad words\n", 2),
+    };
+    let bytes = match read_all(alloc, source, INPUT_LIMIT) {
+        Ok(bytes) => bytes,
+        Err(ReadAllError::Fault) => return finish(sink, b"read fault\n", 4),
+        Err(ReadAllError::TooLong) => return finish(sink, b"input too long\n", 6),
+        Err(ReadAllError::Memory) => return 9,
+    };
+    match make_reply(alloc, command, bytes.as_slice()) {
+        Ok(reply) => finish(sink, reply.text.as_slice(), reply.status),
+        Err(_) => 9,
+    }
+}

@@ -1,0 +1,6 @@
+pub mod Pieces
+pub mod LineCuts
+pub mod Groups
+pub mod Readings
+pub mod Guards
+pub mod Spelling

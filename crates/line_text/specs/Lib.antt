@@ -1,0 +1,9 @@
+pub mod Reads
+pub mod Causes
+pub mod Bytes
+pub mod Lines
+pub mod Tokens
+pub mod Forms
+pub mod Texts
+pub mod Writing
+pub mod Spelling

@@ -1,0 +1,11 @@
+pub mod Logs
+pub mod States
+pub mod Rights
+pub mod Wants
+pub mod Worlds
+pub mod Steps
+pub mod Runs
+pub mod Finals
+pub mod Trace
+pub mod Balance
+pub mod Locals

@@ -1,0 +1,6 @@
+pub mod Requests
+pub mod Draft
+pub mod Bounds
+pub mod Reading
+pub mod Saying
+pub mod WellFormed

@@ -1,0 +1,96 @@
+-- What holds of every document that is read.
+use Rattle.std.specs.Prelude.{◌≡◌, ℕ, ◌+◌, ◌<◌, ◌≤◌, false, List, [], ◌∷◌, length, Option, Some}
+use Rattle.std.specs.List.{AllByRecursion}
+use Rattle.ind_base.specs.declared.span.Span.{Span}
+use Rattle.spec_model.specs.declared.spec.Sort.{Sort}
+use Rattle.spec_model.specs.declared.spec.Spec.{Spec}
+use Rattle.spec_model.specs.declared.clause.Var.{Var}
+use Rattle.spec_model.specs.declared.instance.Inst.{Inst}
+use Rattle.run_model.specs.declared.step.Ask.{Ask}
+use Rattle.run_model.specs.declared.step.Ask.TheVariants as asks
+use Rattle.run_model.specs.declared.step.Order.{Order}
+use Rattle.spec_language.specs.AtStart.{size_at}
+use Rattle.spec_language.specs.WellFormed.{IsWellFormed}
+use Rattle.scenario_text.specs.Requests.{params_at}
+use Rattle.scenario_text.specs.Draft.{courier_turns}
+use Rattle.scenario_text.specs.declared.document.ClientAsk.{ClientAsk}
+use Rattle.scenario_text.specs.declared.document.Work.{Work}
+use Rattle.scenario_text.specs.declared.document.Work.TheVariants as works
+use Rattle.scenario_text.specs.declared.document.Document.{Document}
+
+-- a span of elements of the parameter's sort; one element, where the parameter is plain
+pub record ArgFits (sorts : List Sort) (p : Var) (s : Span) : Type 0 where
+  pub ordered : s.lo ≤ s.hi
+  pub within : s.hi < size_at sorts p.sort
+  pub plain : p.interval ≡ false → s.lo ≡ s.hi
+
+-- as many arguments as parameters, each of its parameter
+abbrev pub ArgsFit : List Sort → List Var → List Span → Type 0
+ArgsFit sorts [] [] = Unit {0}
+ArgsFit sorts [] (s ∷ ss) = ⊥
+ArgsFit sorts (p ∷ ps) [] = ⊥
+ArgsFit sorts (p ∷ ps) (s ∷ ss) = ArgFits sorts p s × ArgsFit sorts ps ss
+
+-- a declared operation at arguments that fit
+pub record InstFits (spec : Spec) (inst : Inst) : Type 0 where
+  pub known : inst.op < length spec.ops
+  pub args : ArgsFit spec.sorts (params_at spec.ops inst.op) inst.args
+
+-- another replica, and the number of a message
+pub record PeerFits (replicas replica peer : ℕ) (number : Option ℕ) : Type 0 where
+  pub within : peer < replicas
+  pub other : peer ≡ replica → ⊥
+  pub given : ℕ
+  pub is_given : number ≡ Some given
+
+-- what a replica is asked in a schedule
+abbrev pub StepFits : Spec → ℕ → ℕ → Ask → Type 0
+StepFits spec replicas replica (asks.Do inst) = InstFits spec inst
+StepFits spec replicas replica (asks.Send to number) = PeerFits replicas replica to number
+StepFits spec replicas replica (asks.Take from number) = PeerFits replicas replica from number
+StepFits spec replicas replica asks.Crash = Unit {0}
+StepFits spec replicas replica asks.Recover = Unit {0}
+
+-- a line of a schedule
+pub record OrderFits (spec : Spec) (replicas : ℕ) (order : Order) : Type 0 where
+  pub within : order.replica < replicas
+  pub step : StepFits spec replicas order.replica order.ask
+
+-- what a client asks: an operation, a crash or a recovery
+abbrev pub RequestFits : Spec → Ask → Type 0
+RequestFits spec (asks.Do inst) = InstFits spec inst
+RequestFits spec (asks.Send to number) = ⊥
+RequestFits spec (asks.Take from number) = ⊥
+RequestFits spec asks.Crash = Unit {0}
+RequestFits spec asks.Recover = Unit {0}
+
+-- a request of a declared client
+pub record AskFits (spec : Spec) (clients : ℕ) (ask : ClientAsk) : Type 0 where
+  pub within : ask.client < clients
+  pub request : RequestFits spec ask.ask
+
+-- a schedule of at most 100,000 lines
+pub record ScheduleFits (spec : Spec) (replicas : ℕ) (orders : List Order) : Type 0 where
+  pub orders_fit : AllByRecursion (OrderFits spec replicas) orders
+  pub few_orders : length orders ≤ 100000
+
+-- at most 32 clients, 10,000 turns, and 100,000 requests and turns of couriers
+pub record ClientsFit (spec : Spec) (replicas turns : ℕ) (homes : List ℕ) (asked : List ClientAsk) : Type 0 where
+  pub few_turns : turns ≤ 10000
+  pub homes_fit : AllByRecursion (λ home. home < replicas) homes
+  pub few_homes : length homes ≤ 32
+  pub asks_fit : AllByRecursion (AskFits spec (length homes)) asked
+  pub few_asks : length asked + courier_turns turns replicas ≤ 100000
+
+abbrev pub WorkFits : Spec → ℕ → Work → Type 0
+WorkFits spec replicas (works.Schedule orders) = ScheduleFits spec replicas orders
+WorkFits spec replicas (works.Clients turns homes asked) = ClientsFit spec replicas turns homes asked
+
+-- a well-formed specification with 1 to 8 replicas, at most 1,000 stops, and work that fits
+pub record IsWellFormedDocument (d : Document) : Type 0 where
+  pub spec : IsWellFormed d.spec
+  pub some_replicas : 1 ≤ d.replicas
+  pub few_replicas : d.replicas ≤ 8
+  pub stops : AllByRecursion (λ line. line.replica < d.replicas) d.stops
+  pub few_stops : length d.stops ≤ 1000
+  pub work : WorkFits d.spec d.replicas d.work

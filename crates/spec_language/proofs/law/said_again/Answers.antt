@@ -1,0 +1,5 @@
+use Rattle.spec_language.proofs.SaidAgain.{read_said}
+use Rattle.spec_language.proofs.law.said_again.Goals as goal
+
+pub returns : goal.returns
+returns c = read_said

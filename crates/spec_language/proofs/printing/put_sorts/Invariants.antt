@@ -1,0 +1,7 @@
+use Rattle.std.proofs.Common.{◌≡◌, ◌++◌, drop, map}
+use Rattle.std.specs.List.{flat_map}
+use Rattle.spec_language.specs.Saying as sayings
+use Rattle.spec_language.proofs.printing.put_sorts.Given as goal
+
+abbrev pub invariant-loop-x : goal.invariant-loop-x
+invariant-loop-x l = l.out ++ flat_map sayings.ended_text (map sayings.say_sort (drop l.x-index l.sorts)) ≡ l.fn.out ++ flat_map sayings.ended_text (map sayings.say_sort l.sorts)

@@ -1,0 +1,8 @@
+pub mod Names
+pub mod AtStart
+pub mod Draft
+pub mod Bounds
+pub mod Saying
+pub mod WellFormed
+pub mod Again
+pub mod Reading

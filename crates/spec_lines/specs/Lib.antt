@@ -1,0 +1,4 @@
+pub mod Items
+pub mod Literals
+pub mod Forms
+pub mod Texts

@@ -1,0 +1,9 @@
+pub mod Universe
+pub mod Changes
+pub mod Needs
+pub mod Bounds
+pub mod Counters
+pub mod Fits
+pub mod Separated
+pub mod Stable
+pub mod Truths
