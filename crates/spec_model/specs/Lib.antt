@@ -7,3 +7,4 @@ pub mod Fits
 pub mod Separated
 pub mod Stable
 pub mod Truths
+pub mod Breaks
