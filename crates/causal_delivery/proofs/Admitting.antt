@@ -89,6 +89,7 @@ counts_admitted origin cut (x ∷ items) (suc n) row place h =
         origin_at origin at [] n item row is = absurd cc
         origin_at origin at (y ∷ items) zero item row is = let same : y ≡ item = cc in ap (λ (i : LogItem). i.origin) (sym same) ∙ row.0
         origin_at origin at (y ∷ items) (suc n) item row is = origin_at origin (at + 1) items n item row.3 is
+
         each_later : (origin at first : ℕ) (cut : List ℕ) (items : List LogItem) (n : ℕ) → AreInRow origin first items → AllByRecursion (λ item. IsSeenBut item.deps cut item.origin) (take n items)
             → AllByRecursion (λ item. IsSeenBut item.deps (slice_set cut origin at) item.origin) (take n items)
         each_later origin at first cut items zero row h = tt
