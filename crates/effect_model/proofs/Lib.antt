@@ -1,0 +1,6 @@
+pub mod Tuples
+pub mod Sizes
+pub mod Placing
+pub mod Declarations
+pub mod Listing
+pub mod Whole

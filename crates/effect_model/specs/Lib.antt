@@ -1,0 +1,4 @@
+pub mod Tuples
+pub mod Listed
+pub mod Places
+pub mod Laws

@@ -1,0 +1,9 @@
+//! Effects of operations: the places of atoms and cells, what an instance changes, and what it breaks.
+#![tactic(auto)]
+
+mod laws;
+mod layout;
+mod places;
+
+pub use laws::universe_is_all;
+pub use places::{atom_at, atom_count, atom_place, cell_at, cell_count, cell_place};
