@@ -4,3 +4,8 @@ pub mod Placing
 pub mod Declarations
 pub mod Listing
 pub mod Whole
+pub mod Terms
+pub mod Walks
+pub mod Amounts
+pub mod Untouched
+pub mod Turning
