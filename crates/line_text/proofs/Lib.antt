@@ -4,3 +4,5 @@ pub mod Groups
 pub mod Readings
 pub mod Guards
 pub mod Spelling
+pub mod Inverse
+pub mod Runs
