@@ -6,3 +6,5 @@ pub mod Guards
 pub mod Spelling
 pub mod Inverse
 pub mod Runs
+pub mod Listing
+pub mod Again
