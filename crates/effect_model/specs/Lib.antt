@@ -5,3 +5,4 @@ pub mod Laws
 pub mod Effects
 pub mod Touching
 pub mod Turns
+pub mod Amounts

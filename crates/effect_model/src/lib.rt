@@ -3,6 +3,7 @@
 
 mod change;
 mod effects;
+mod escrow;
 mod laws;
 mod layout;
 mod places;
@@ -11,5 +12,6 @@ mod walk;
 
 pub use change::{AtomChange, CellChange, Change};
 pub use effects::effect;
-pub use laws::universe_is_all;
+pub use escrow::escrow_needs;
+pub use laws::{changes_are_small, universe_is_all};
 pub use places::{atom_at, atom_count, atom_place, cell_at, cell_count, cell_place};
