@@ -10,3 +10,5 @@ pub mod Sums
 pub mod Untouched
 pub mod Needed
 pub mod Turning
+pub mod Pruned
+pub mod Standing

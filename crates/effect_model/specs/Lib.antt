@@ -6,3 +6,4 @@ pub mod Effects
 pub mod Touching
 pub mod Turns
 pub mod Amounts
+pub mod Pruning
