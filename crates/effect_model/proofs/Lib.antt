@@ -6,6 +6,9 @@ pub mod Listing
 pub mod Whole
 pub mod Terms
 pub mod Walks
-pub mod Amounts
+pub mod Sums
 pub mod Untouched
+pub mod Needed
 pub mod Turning
+pub mod Pruned
+pub mod Standing

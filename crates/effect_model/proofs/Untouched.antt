@@ -1,5 +1,5 @@
 -- Where no line touches anything behind some elements.
-use Rattle.std.proofs.Common.{◌≡◌, ℕ, zero, suc, ◌+◌, Bool, true, false, ◌&&◌, ◌||◌, if◌then◌else◌, List, [], ◌∷◌, ◌++◌, refl, sym, ap, ◌∙◌, arith, Option, Some, None}
+use Rattle.std.proofs.Common.{◌≡◌, ℕ, zero, suc, ◌+◌, Bool, true, false, ◌&&◌, ◌||◌, if◌then◌else◌, List, [], ◌∷◌, ◌++◌, refl, sym, ap, ◌∙◌, arith, Option, Some, None, ◌-◌}
 use Rattle.std.specs.List.{list_any, sum_by}
 use Rattle.std.specs.Str.{bytes_eq as equal_numbers}
 use Rattle.std.proofs.lemmas.List.Sums.{sum_by-cons}
@@ -9,11 +9,12 @@ use Rattle.spec_model.specs.declared.instance.Cell.{Cell}
 use Rattle.spec_model.specs.declared.operation.Line.{Line}
 use Rattle.spec_model.specs.declared.operation.Line.TheVariants.{Set, Clear, Add, Sub}
 use Rattle.spec_model.specs.declared.operation.Term.{Term}
+use Rattle.spec_model.specs.declared.right.Right.TheVariants as right
 use Rattle.spec_model.specs.Truths.{terms_touch, term_has, line_sets, lines_set, inst_has, or_else}
 use Rattle.spec_model.specs.Changes.{line_adds, line_subtracts, elements_at}
 use Rattle.effect_model.specs.Touching.{terms_begin, begins_with, line_may_set, line_may_change}
 use Rattle.effect_model.specs.Effects.{with_truth, with_net}
-use Rattle.effect_model.specs.Turns.{atoms_set_by, cells_changed_by}
+use Rattle.effect_model.specs.Turns.{atoms_set_by, cells_changed_by, where_bounded, count_need, cell_needs}
 
 -- tests that fail
 and_fails : (a b c : Bool) → (b ≡ false → c ≡ false) → (a && b) ≡ false → (a && c) ≡ false
@@ -83,3 +84,16 @@ pub nothing_changed : (inst : Inst) (n : ℕ) (front xs : List ℕ) (lines : Lis
 nothing_changed inst n front xs lines e =
     let same = lines_same inst n front xs lines e in
     ap (λ k. with_net (cell_at n (front ++ xs)) k (sum_by (line_subtracts inst (cell_at n (front ++ xs))) lines)) same.0 ∙ ap (with_net (cell_at n (front ++ xs)) 0) same.1
+
+none_bounded : (b : Bool) → where_bounded b 0 ≡ 0
+none_bounded true = refl
+none_bounded false = refl
+
+pub nothing_needed : (inst : Inst) (n : ℕ) (front xs : List ℕ) (lines : List Line) (low high : Bool) → list_any (line_may_change inst n front) lines ≡ false → cell_needs inst lines low high (cell_at n (front ++ xs)) ≡ []
+nothing_needed inst n front xs lines low high e =
+    let same = lines_same inst n front xs lines e in
+    let cell = cell_at n (front ++ xs) in
+    ap (λ k. count_need (right.Low cell) (where_bounded low (sum_by (line_subtracts inst cell) lines - k)) ++ count_need (right.High cell) (where_bounded high (k - sum_by (line_subtracts inst cell) lines))) same.0
+    ∙ ap (λ k. count_need (right.Low cell) (where_bounded low (k - 0)) ++ count_need (right.High cell) (where_bounded high (0 - k))) same.1
+    ∙ ap (λ k. count_need (right.Low cell) k ++ count_need (right.High cell) (where_bounded high 0)) (none_bounded low)
+    ∙ ap (λ k. count_need (right.High cell) k) (none_bounded high)

@@ -5,3 +5,5 @@ pub mod Laws
 pub mod Effects
 pub mod Touching
 pub mod Turns
+pub mod Amounts
+pub mod Pruning

@@ -15,3 +15,7 @@ pub record AtomFits (spec : Spec) (atom : Atom) : Type 0 where
 pub record CellFits (spec : Spec) (cell : Cell) : Type 0 where
   pub known : cell.num < length spec.nums
   pub within : Within (size_of spec) (num_at spec cell.num).sorts cell.args
+
+-- every atom of the universe may be asked for
+abbrev pub KnowsAll : (Atom → Type 0) → Spec → Type 0
+KnowsAll knows spec = (atom : Atom) → AtomFits spec atom → knows atom

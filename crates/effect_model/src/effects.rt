@@ -96,7 +96,7 @@ impl Listing for Changing<'_> {
 }
 
 /// How many elements each of these sorts has.
-fn sort_sizes(spec: &Spec, sorts: &Args) -> Args
+pub(crate) fn sort_sizes(spec: &Spec, sorts: &Args) -> Args
     ensures { result ≡ sizes_of spec.now sorts.now }
 {
     let mut sizes = Args::new();

@@ -1,8 +1,14 @@
 //! Laws about universes, for callers to cite.
 
+ghost use Rattle.effect_model.specs.Amounts.{ChangesAreSmall};
 ghost use Rattle.effect_model.specs.Laws.{UniverseIsAll};
 
 /// Atoms and cells are what is declared at all elements of its sorts, each at one place.
 pub fn universe_is_all()
     ensures { UniverseIsAll }
+{}
+
+/// An instance adds at most 16 * 10^9 to a cell, and subtracts at most that.
+pub fn changes_are_small()
+    ensures { ChangesAreSmall }
 {}

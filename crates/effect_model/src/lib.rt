@@ -1,15 +1,21 @@
 //! Effects of operations: the places of atoms and cells, what an instance changes, and what it breaks.
 #![tactic(auto)]
 
+mod breaking;
 mod change;
 mod effects;
+mod escrow;
 mod laws;
 mod layout;
 mod places;
 mod touching;
+mod truth;
 mod walk;
 
+pub use breaking::breaks;
 pub use change::{AtomChange, CellChange, Change};
 pub use effects::effect;
-pub use laws::universe_is_all;
+pub use escrow::escrow_needs;
+pub use laws::{changes_are_small, universe_is_all};
 pub use places::{atom_at, atom_count, atom_place, cell_at, cell_count, cell_place};
+pub use truth::Truth;

@@ -30,7 +30,7 @@ fn arg_has(inst: &Inst, place: u32, x: u32) -> bool
 }
 
 /// Whether an element lies in what a term stands for.
-fn term_has(inst: &Inst, term: &Term, x: u32) -> bool
+pub(crate) fn term_has(inst: &Inst, term: &Term, x: u32) -> bool
     ensures { result ≡ truths.term_has (inst_has inst.now) term.now x }
 {
     match term {

@@ -2,7 +2,7 @@ use Rattle.std.proofs.Common.{◌≡◌, ◌≤◌, ◌+◌, arith, take, get_or
 use Rattle.std.specs.List.{sum_by}
 use Rattle.std.proofs.lemmas.List.Sums.{sum_by_more_le, sum_by-take-le}
 use Rattle.spec_model.specs.Changes.{line_subtracts}
-use Rattle.effect_model.proofs.Amounts.{subtracts_small}
+use Rattle.effect_model.proofs.Sums.{subtracts_small}
 use Rattle.effect_model.proofs.touching.lines_subtract.Goals as goal
 
 pub overflow_add-all : goal.overflow_add-all

@@ -1,0 +1,53 @@
+-- Whether an effect may set an atom of a clause where its first variables have some elements.
+use Rattle.std.specs.Prelude.{ℕ, Bool, true, false, ◌&&◌, ◌||◌, ◌==◌, List, [], ◌∷◌, ◌++◌, map, slice_get}
+use Rattle.std.specs.List.{list_any, AllByRecursion}
+use Rattle.std.specs.Option.{option_map_or}
+use Rattle.spec_model.specs.declared.clause.Clause.{Clause}
+use Rattle.spec_model.specs.declared.clause.Literal.{Literal}
+use Rattle.spec_model.specs.declared.clause.Literal.TheVariants.{Atom, Equal}
+use Rattle.spec_model.specs.declared.instance.Inst.{Inst}
+use Rattle.spec_model.specs.declared.operation.Line.{Line}
+use Rattle.spec_model.specs.declared.operation.Line.TheVariants.{Set, Clear, Add, Sub}
+use Rattle.spec_model.specs.declared.operation.Term.{Term}
+use Rattle.spec_model.specs.declared.spec.Spec.{Spec}
+use Rattle.spec_model.specs.Truths.{term_has, inst_has, values}
+use Rattle.spec_model.specs.Universe.{tuples}
+use Rattle.effect_model.specs.Places.{AtomFits}
+
+-- the term has the variable's element, if that is given
+unfoldable pub term_may : (ℕ → ℕ → Bool) → List ℕ → Term → ℕ → Bool
+term_may has front t v = option_map_or (term_has has t) (slice_get front v) true
+
+abbrev pub terms_may : (ℕ → ℕ → Bool) → List ℕ → List Term → List ℕ → Bool
+terms_may has front [] [] = true
+terms_may has front [] (v ∷ vars) = false
+terms_may has front (t ∷ terms) [] = false
+terms_may has front (t ∷ terms) (v ∷ vars) = term_may has front t v && terms_may has front terms vars
+
+-- the line may set the predicate at these variables
+abbrev pub line_may : Inst → List ℕ → ℕ → List ℕ → Line → Bool
+line_may inst front p vars (Set q terms) = p == q && terms_may (inst_has inst) front terms vars
+line_may inst front p vars (Clear q terms) = p == q && terms_may (inst_has inst) front terms vars
+line_may inst front p vars (Add n params amount) = false
+line_may inst front p vars (Sub n params amount) = false
+
+abbrev pub literal_may : Inst → List Line → List ℕ → Literal → Bool
+literal_may inst lines front (Atom p vars) = list_any (line_may inst front p vars) lines
+literal_may inst lines front (Equal l r) = false
+
+abbrev pub clause_may : Inst → List Line → List ℕ → Clause → Bool
+clause_may inst lines front c = list_any (literal_may inst lines front) c.premise || list_any (literal_may inst lines front) c.conclusion
+
+-- a literal's atom at these elements is one of the universe
+abbrev pub LiteralStands : Spec → List ℕ → Literal → Type 0
+LiteralStands spec xs (Atom p vars) = AtomFits spec (record { pred = p; args = values xs vars })
+LiteralStands spec xs (Equal l r) = Unit {0}
+
+-- and that of each literal of a clause
+pub record ClauseStands (spec : Spec) (xs : List ℕ) (c : Clause) : Type 0 where
+  pub premise : AllByRecursion (LiteralStands spec xs) c.premise
+  pub conclusion : AllByRecursion (LiteralStands spec xs) c.conclusion
+
+-- all tuples below these sizes, behind these elements
+abbrev pub tuples_behind : List ℕ → List ℕ → List (List ℕ)
+tuples_behind front sizes = map (λ xs. front ++ xs) (tuples sizes)

@@ -1,0 +1,55 @@
+//! The truths of atoms, before and after an effect.
+
+ghost use Rattle.std.specs.Prelude.{◌≡◌, ◌<◌, length};
+ghost use Rattle.spec_model.specs.Truths.{Truths, inst_sets as set_to};
+ghost use Rattle.spec_model.specs.Breaks.{laid_over};
+ghost use Rattle.effect_model.specs.Places.{AtomFits, KnowsAll};
+
+use crate::touching::{lines_of, lines_set};
+use spec_model::{Args, Atom, Inst, Spec};
+
+/// The truths of atoms.
+pub trait Truth {
+    ghost use Rattle.spec_model.specs.declared.instance.Atom.{Atom as SomeAtom};
+
+    /// Which atoms may be asked for.
+    ghost knows: { Self → SomeAtom → Type 0 };
+
+    ghost truths: { Self → Truths };
+
+    /// Whether an atom is true.
+    fn truth(&self, atom: &Atom) -> bool
+        requires { knows self.now atom.now }
+        ensures { result ≡ truths self.now atom.now.pred atom.now.args };
+}
+
+/// The truths of a state, with the effect of an instance laid over them.
+#[derive(Drop)]
+pub(crate) struct Laid<'a, T> {
+    pub(crate) spec: &'a Spec,
+    pub(crate) state: &'a T,
+    pub(crate) inst: &'a Inst,
+}
+
+impl<T: Truth> Laid<'_, T> {
+    /// What the instance sets an atom to.
+    pub(crate) fn sets(&self, pred: u32, args: &[u32]) -> Option<bool>
+        requires { self.now.inst.now.op < length self.now.spec.now.ops }
+        ensures { result ≡ set_to self.now.spec.now self.now.inst.now pred args.now }
+    {
+        lines_set(self.inst, lines_of(self.spec, self.inst), pred, args)
+    }
+
+    /// Whether an atom is true once the effect is laid over.
+    pub(crate) fn truth(&self, atom: &Atom) -> bool
+        requires known { self.now.inst.now.op < length self.now.spec.now.ops }
+        requires knows { KnowsAll (T.knows self.now.state.now) self.now.spec.now }
+        requires fits { AtomFits self.now.spec.now atom.now }
+        ensures { result ≡ laid_over self.now.spec.now self.now.inst.now (T.truths self.now.state.now) atom.now.pred atom.now.args }
+    {
+        match self.sets(atom.pred, atom.args.as_slice()) {
+            Some(truth) => truth,
+            None => self.state.truth(atom),
+        }
+    }
+}
