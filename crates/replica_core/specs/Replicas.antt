@@ -1,5 +1,5 @@
 -- A replica of the code, as the definitions of runs see it.
-use Rattle.std.specs.Prelude.{◌≡◌, ◌≢◌, ℕ, ◌+◌, ◌-◌, ◌<◌, ◌≤◌, ◌^◌, List, [], ◌∷◌, ◌++◌, length, slice_set, sum_by, Contains}
+use Rattle.std.specs.Prelude.{◌≡◌, ◌≢◌, ℕ, ◌+◌, ◌-◌, ◌<◌, ◌≤◌, ◌^◌, List, [], ◌∷◌, ◌++◌, length, slice_set, sum_by, Contains, Some}
 use Rattle.std.specs.List.{AllByRecursion}
 use Rattle.spec_model.specs.declared.plan.Setup.{Setup}
 use Rattle.spec_model.specs.declared.spec.Spec.{Spec}
@@ -13,11 +13,14 @@ use Rattle.spec_model.specs.Universe.{cells}
 use Rattle.run_model.specs.declared.message.Message.{Message}
 use Rattle.run_model.specs.declared.step.Ask.TheVariants as asks
 use Rattle.run_model.specs.declared.step.Outcome.{Outcome}
-use Rattle.run_model.specs.Logs.{Logs, log_at}
-use Rattle.run_model.specs.Rights.{body_gains, body_loses, even_share, first_count}
+use Rattle.run_model.specs.Logs.{Logs, item_at, log_at}
+use Rattle.spec_model.specs.declared.right.Need.{Need}
+use Rattle.spec_model.specs.declared.right.Held.{Held}
+use Rattle.run_model.specs.Rights.{body_gains, body_loses, even_share, first_count, held_of}
 use Rattle.run_model.specs.Worlds.{Standing, Sending, logged, logged_all}
-use Rattle.run_model.specs.Steps.{Requests, Takes}
-use Rattle.run_model.specs.Fitting.{AreInRow, WantFits}
+use Rattle.spec_model.specs.declared.right.Want.{Want}
+use Rattle.run_model.specs.Steps.{Requests, Takes, answered}
+use Rattle.run_model.specs.Fitting.{AreInRow, ItemFits, WantFits}
 use Rattle.causal_store.specs.Stores.{IsStore, cut_in, logs_in}
 use Rattle.replica_core.specs.Tables.{AreHeld}
 use Rattle.replica_core.specs.declared.replica.Replica.{Replica}
@@ -44,6 +47,10 @@ standing_of stamp sendings r = record {
   told = r.told;
   sendings = sendings;
 }
+
+-- what it holds of what is needed
+abbrev pub holds_of : Setup → Replica → Need → Held
+holds_of setup r need = held_of setup (known_to r) r.me (own_log r) need
 
 -- what the body accepts is an item of another log that is known
 abbrev pub IsKnown : Logs → ℕ → Body → Type 0
@@ -97,9 +104,35 @@ pub record HasAnswered (setup : Setup) (inst : Inst) (old : Replica) (outcome : 
   pub requests : (stamp : ℕ) (sendings : List Sending) → Requests setup (known_to old) old.me inst (standing_of stamp sendings old) outcome (standing_of stamp sendings new)
   pub knows : KnowsOwn (known_to old) new
 
+-- it has applied the item, which is of another log
+abbrev pub IsApplied : Replica → LogItem → Type 0
+IsApplied r item = (item.origin ≢ r.me) × (item_at (known_to r) item.origin item.index ≡ Some item)
+
+-- the replica once it has answered these wants in turn, with so many pieces
+pub record HasGiven (setup : Setup) (to : ℕ) (wants : List Want) (old : Replica) (count : ℕ) (new : Replica) : Type 0 where
+  pub own : IsReplica setup old.me new
+  pub stands : (stamp : ℕ) (sendings : List Sending) → standing_of stamp sendings new ≡ answered setup (known_to old) old.me to wants (standing_of stamp sendings old)
+  pub knows : KnowsOwn (known_to old) new
+  pub counted : length (own_log new) ≡ length (own_log old) + count
+  pub few : count ≤ length wants
+
 -- the logs that are known once these items of another log are applied
 abbrev pub with_items : ℕ → List LogItem → Logs → Logs
 with_items from applied known = slice_set known from (log_at known from ++ applied)
+
+-- these are the next items of another log, which the store may apply
+pub record CanLearn (spec : Spec) (r : Replica) (items : List LogItem) : Type 0 where
+  pub from : ℕ
+  pub store : IsStore spec (length (known_to r)) r.store
+  pub place : from < length (known_to r)
+  pub row : AreInRow from (length (log_at (known_to r) from)) items
+  pub fits : AllByRecursion (ItemFits spec (length (known_to r))) items
+
+-- these items stand at the end of the log that they are of, and all else is as it was
+pub record HasLearned (spec : Spec) (items : List LogItem) (old new : Replica) : Type 0 where
+  pub kept : new ≡ record old { store = new.store }
+  pub store : IsStore spec (length (known_to old)) new.store
+  pub logs : (from : ℕ) → AreInRow from (length (log_at (known_to old) from)) items → from < length (known_to old) → known_to new ≡ with_items from items (known_to old)
 
 -- a message was taken so
 pub record HasTaken (setup : Setup) (message : Message) (old : Replica) (outcome : Outcome) (new : Replica) : Type 0 where

@@ -1,5 +1,5 @@
 -- A table of rights: how many to lower each cell, by the cell's place in the universe.
-use Rattle.std.specs.Prelude.{◌≡◌, ◌≢◌, ℕ, ◌+◌, ◌-◌, ◌*◌, ◌<◌, ◌≤◌, ◌^◌, List, length, is_some, if◌then◌else◌, slice_get, slice_index, Some, sum_by}
+use Rattle.std.specs.Prelude.{◌≡◌, ◌≢◌, ℕ, ◌+◌, ◌-◌, ◌*◌, ◌<◌, ◌≤◌, ◌^◌, List, length, is_some, if◌then◌else◌, slice_get, slice_index, Some, None, sum_by, Contains}
 use Rattle.spec_model.specs.declared.plan.Setup.{Setup}
 use Rattle.spec_model.specs.declared.spec.Spec.{Spec}
 use Rattle.spec_model.specs.declared.instance.Cell.{Cell}
@@ -8,7 +8,9 @@ use Rattle.spec_model.specs.declared.operation.Line.{Line}
 use Rattle.spec_model.specs.declared.right.Right.{Right}
 use Rattle.spec_model.specs.declared.right.Right.TheVariants as right
 use Rattle.spec_model.specs.declared.log.LogItem.{LogItem}
-use Rattle.spec_model.specs.Universe.{cells, lower_bound}
+use Rattle.spec_model.specs.declared.right.Need.{Need}
+use Rattle.spec_model.specs.declared.right.Amount.TheVariants as amount
+use Rattle.spec_model.specs.Universe.{cells, lower_bound, upper_bound}
 use Rattle.spec_model.specs.Changes.{line_adds, line_subtracts}
 use Rattle.spec_model.specs.Needs.{creates, spends}
 use Rattle.run_model.specs.Logs.{Logs}
@@ -56,3 +58,15 @@ pub record AreFirst (setup : Setup) (me : ℕ) (counts : List ℕ) : Type 0 wher
 pub record SpendsBy (spec : Spec) (inst : Inst) (old new : List ℕ) : Type 0 where
   pub long : length new ≡ length old
   pub at : (i : ℕ) (cell : Cell) → slice_get (cells spec) i ≡ Some cell → slice_index new i + spends spec inst (right.Low cell) ≡ slice_index old i + creates spec inst (right.Low cell)
+
+-- no cell has an upper bound
+abbrev pub HasNoUpper : Spec → Type 0
+HasNoUpper spec = (cell : Cell) → upper_bound spec cell ≡ None
+
+-- the need of so many rights to lower a cell
+abbrev pub low_need : Cell → ℕ → Need
+low_need cell n = record { right = right.Low cell; amount = amount.Count n }
+
+-- a need of rights to lower a cell of the universe
+abbrev pub NeedFits : Spec → Need → Type 0
+NeedFits spec need = (cell : Cell) × (n : ℕ) × Contains (cells spec) cell × (need ≡ low_need cell n) × (n < 2 ^ 64)

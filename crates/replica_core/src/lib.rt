@@ -2,8 +2,10 @@
 #![tactic(auto)]
 
 mod replica;
+mod requesting;
 mod rights;
 mod spending;
+mod taking;
 mod wanting;
 
 pub use replica::Replica;

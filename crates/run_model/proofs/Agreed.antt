@@ -44,7 +44,7 @@ AllAgree a b items = AllByRecursion (λ item. Agrees a b item.body) items
 -- ---- what is held
 
 -- then the body gains the same
-gains_agree : (spec : Spec) (a b : Logs) (r : Right) (what : Body) → Agrees a b what → body_gains spec a r what ≡ body_gains spec b r what
+pub gains_agree : (spec : Spec) (a b : Logs) (r : Right) (what : Body) → Agrees a b what → body_gains spec a r what ≡ body_gains spec b r what
 gains_agree spec a b r (body.Act inst) h = refl
 gains_agree spec a b r (body.Out to given piece) h = refl
 gains_agree spec a b r (body.Accept from at) h = ap (λ (o : Option LogItem). option_map_or (λ (out : LogItem). out_gives r out.body) o 0) h
@@ -70,7 +70,7 @@ gains_same spec logs others r own acts =
     gains_all_agree spec logs others r own (each_weaker IsAct (λ (i : LogItem). Agrees logs others i.body) (act_agrees logs others) own acts)
 
 -- then the same is held of each need
-held_agree : (setup : Setup) (a b : Logs) (me : ℕ) (p : Standing) → AllAgree a b p.log → holding setup a me p ≡ holding setup b me p
+pub held_agree : (setup : Setup) (a b : Logs) (me : ℕ) (p : Standing) → AllAgree a b p.log → holding setup a me p ≡ holding setup b me p
 held_agree setup a b me p h =
     fun_ext (λ (need : Need). ap (λ gained. held.Count ((even_share (first_count setup.spec need.right) setup.replicas me + gained) - sum_by (λ (i : LogItem). body_loses setup.spec need.right i.body) p.log))
     (gains_all_agree setup.spec a b need.right p.log h))
@@ -89,7 +89,7 @@ given_agree a b None to r = tt
 given_agree a b (Some piece) to r = (tt, tt)
 
 -- wants are answered the same
-answered_agree : (setup : Setup) (a b : Logs) (me to : ℕ) (wants : List Want) (p : Standing) → AllAgree a b p.log → answered setup a me to wants p ≡ answered setup b me to wants p
+pub answered_agree : (setup : Setup) (a b : Logs) (me to : ℕ) (wants : List Want) (p : Standing) → AllAgree a b p.log → answered setup a me to wants p ≡ answered setup b me to wants p
 answered_agree setup a b me to [] p h = refl
 answered_agree setup a b me to (want ∷ wants) p h =
     let bodies : List Body = given (piece_for (holding setup a me p (need_of want)) want.ask) to want.right in
@@ -97,7 +97,7 @@ answered_agree setup a b me to (want ∷ wants) p h =
     ∙ ap (λ (f : Need → Held). answered setup b me to wants (logged_all me (given (piece_for (f (need_of want)) want.ask) to want.right) p)) (held_agree setup a b me p h)
 
 -- the same wants are dropped
-dropped_agree : (setup : Setup) (a b : Logs) (me : ℕ) (p : Standing) → AllAgree a b p.log → dropped setup a me p ≡ dropped setup b me p
+pub dropped_agree : (setup : Setup) (a b : Logs) (me : ℕ) (p : Standing) → AllAgree a b p.log → dropped setup a me p ≡ dropped setup b me p
 dropped_agree setup a b me p h = ap (λ (f : Need → Held). let q : Standing = record p { wants = still_wanted f p.wants } in q) (held_agree setup a b me p h)
 
 -- a take by the one is a take by the other

@@ -1,0 +1,159 @@
+-- What a request needs, and what is wanted once it is short.
+use Rattle.std.proofs.Common.{◌≡◌, inl, inr, ℕ, zero, suc, ◌+◌, ◌-◌, ◌<◌, ◌≤◌, ◌^◌, Bool, true, false, cond, List, [], ◌∷◌, ◌++◌, length, map, drop, refl, sym, ap, subst, ◌∙◌, arith}
+use Rattle.std.specs.Prelude.{Some, None, Option, Contains, is_some, nat_lt, slice_set}
+use Rattle.std.specs.List.{AllByRecursion, flat_map, list_any}
+use Rattle.std.proofs.lemmas.Bool.{cond_both, cond-false}
+use Rattle.std.proofs.lemmas.List.{length_push, length-map}
+use Rattle.spec_model.specs.declared.plan.Setup.{Setup}
+use Rattle.spec_model.specs.declared.spec.Spec.{Spec}
+use Rattle.spec_model.specs.declared.instance.Inst.{Inst}
+use Rattle.spec_model.specs.declared.instance.Cell.{Cell}
+use Rattle.spec_model.specs.declared.right.Right.TheVariants as right
+use Rattle.spec_model.specs.declared.right.Need.{Need}
+use Rattle.spec_model.specs.declared.right.Held.{Held}
+use Rattle.spec_model.specs.declared.right.Want.{Want}
+use Rattle.spec_model.specs.declared.right.Lacking.{Lacking}
+use Rattle.spec_model.specs.declared.right.Amount.TheVariants as amount
+use Rattle.spec_model.specs.declared.log.Body.TheVariants as body
+use Rattle.spec_model.specs.Universe.{cells, upper_bound}
+use Rattle.spec_model.specs.Changes.{net_rise}
+use Rattle.spec_model.specs.Needs.{escrow_need, escrow_needs, spends}
+use Rattle.effect_model.specs.Amounts.{IsFew}
+use Rattle.run_model.specs.declared.step.Outcome.{Outcome}
+use Rattle.run_model.specs.declared.step.Outcome.TheVariants as outcomes
+use Rattle.run_model.specs.Logs.{Logs}
+use Rattle.run_model.specs.Rights.{first_lacking, is_met}
+use Rattle.run_model.specs.Worlds.{Sending, Standing}
+use Rattle.run_model.specs.Steps.{Requested}
+use Rattle.run_model.specs.Wants.{behind, is_on, noted, replaced, want_of}
+use Rattle.run_model.specs.Fitting.{WantFits}
+use Rattle.run_model.proofs.Lists.{each_append, each_weaker}
+use Rattle.replica_core.specs.Tables.{HasNoUpper, NeedFits, low_need}
+use Rattle.replica_core.specs.Replicas.{HasAnswered, HasLogged, IsReplica, holds_of, known_to, own_log, standing_of}
+use Rattle.replica_core.specs.declared.replica.Replica.{Replica}
+use Rattle.replica_core.proofs.Taken.{set_back}
+
+-- ---- needs
+
+-- each element of a list is in it
+each_among : {X : Type 0} (xs : List X) → AllByRecursion (Contains xs) xs
+each_among [] = tt
+each_among (x ∷ xs) = ((0, omega arith, refl), each_weaker (Contains xs) (Contains (x ∷ xs)) (λ y h. (suc h.0, omega (arith, h.1), h.2)) xs (each_among xs))
+
+-- no rights to raise a cell are spent where none has an upper bound
+none_raised : (spec : Spec) (inst : Inst) (cell : Cell) → HasNoUpper spec → spends spec inst (right.High cell) ≡ 0
+none_raised spec inst cell lower = cond-false (is_some (upper_bound spec cell)) (net_rise spec inst cell) 0 (ap is_some (lower cell))
+
+-- the need of a right to lower a cell of the universe fits
+low_fits : (spec : Spec) (inst : Inst) (cell : Cell) → Contains (cells spec) cell → AllByRecursion IsFew (escrow_need spec inst (right.Low cell)) → AllByRecursion (NeedFits spec) (escrow_need spec inst (right.Low cell))
+low_fits spec inst cell among few = by_test (nat_lt 0 n) few
+  where
+    n : ℕ
+    n = spends spec inst (right.Low cell)
+    by_test : (b : Bool) → AllByRecursion IsFew (cond b (low_need cell n ∷ []) []) → AllByRecursion (NeedFits spec) (cond b (low_need cell n ∷ []) [])
+    by_test true h = ((cell, n, among, refl, (let up = h.0.1 in omega (arith, up))), tt)
+    by_test false h = tt
+
+-- there is no need of a right to raise one
+high_none : (spec : Spec) (inst : Inst) (cell : Cell) → HasNoUpper spec → escrow_need spec inst (right.High cell) ≡ []
+high_none spec inst cell lower = ap (λ n. cond (nat_lt 0 n) (record { right = right.High cell; amount = amount.Count n } ∷ []) []) (none_raised spec inst cell lower)
+
+each_front : {X : Type 0} (P : X → Type 0) (xs ys : List X) → AllByRecursion P (xs ++ ys) → AllByRecursion P xs × AllByRecursion P ys
+each_front P [] ys h = (tt, h)
+each_front P (x ∷ xs) ys h = let rest = each_front P xs ys h.1 in ((h.0, rest.0), rest.1)
+
+-- all needs of escrow fit
+pub needs_fit : (spec : Spec) (inst : Inst) → HasNoUpper spec → AllByRecursion IsFew (escrow_needs spec inst) → AllByRecursion (NeedFits spec) (escrow_needs spec inst)
+needs_fit spec inst lower few = of_cells (cells spec) (each_among (cells spec)) few
+  where
+    of_cell : Cell → List Need
+    of_cell cell = escrow_need spec inst (right.Low cell) ++ escrow_need spec inst (right.High cell)
+    of_cells : (cs : List Cell) → AllByRecursion (Contains (cells spec)) cs → AllByRecursion IsFew (flat_map of_cell cs) → AllByRecursion (NeedFits spec) (flat_map of_cell cs)
+    of_cells [] among h = tt
+    of_cells (cell ∷ cs) among h =
+        let parts = each_front IsFew (of_cell cell) (flat_map of_cell cs) h in
+        let lows = each_front IsFew (escrow_need spec inst (right.Low cell)) (escrow_need spec inst (right.High cell)) parts.0 in
+        each_append (NeedFits spec) (of_cell cell) (flat_map of_cell cs)
+        (each_append (NeedFits spec) (escrow_need spec inst (right.Low cell)) (escrow_need spec inst (right.High cell)) (low_fits spec inst cell among.0 lows.0) (subst (AllByRecursion (NeedFits spec)) (sym (high_none spec inst cell lower)) tt))
+        (of_cells cs among.1 parts.1)
+
+-- the need that is lacking is one of them
+lacking_fits : (P : Need → Type 0) (h : Need → Held) (needs : List Need) (l : Lacking) → AllByRecursion P needs → first_lacking h needs ≡ Some l → P l.need
+lacking_fits P h [] l all is = absurd cc
+lacking_fits P h (need ∷ needs) l all is = by_test (is_met h need) (λ later. lacking_fits P h needs l all.1 later) is
+  where
+    need_is : Some (record { need = need; held = h need }) ≡ Some l → need ≡ l.need
+    need_is same = cc
+    by_test : (b : Bool) → (first_lacking h needs ≡ Some l → P l.need) → cond b (first_lacking h needs) (Some (record { need = need; held = h need })) ≡ Some l → P l.need
+    by_test true later same = later same
+    by_test false later same = subst P (need_is same) all.0
+
+-- ---- wants
+
+want_fits : (spec : Spec) (need : Need) → NeedFits spec need → WantFits spec (want_of need)
+want_fits spec need h = subst (λ m. WantFits spec (want_of m)) (sym h.3) (record { of = h.2; much = h.4 })
+
+replaced_fit : (P : Want → Type 0) (wants : List Want) (want : Want) → AllByRecursion P wants → P want → AllByRecursion P (replaced wants want)
+replaced_fit P [] want all h = tt
+replaced_fit P (w ∷ wants) want all h = (cond_both (is_on want.right w) want w P (λ same. h) (λ other. all.0), replaced_fit P wants want all.1 h)
+
+each_dropped : {X : Type 0} (P : X → Type 0) (k : ℕ) (xs : List X) → AllByRecursion P xs → AllByRecursion P (drop k xs)
+each_dropped P zero xs all = all
+each_dropped P (suc k) [] all = all
+each_dropped P (suc k) (x ∷ xs) all = each_dropped P k xs all.1
+
+length_dropped : {X : Type 0} (k : ℕ) (xs : List X) → length (drop k xs) ≡ length xs - k
+length_dropped zero xs = omega arith
+length_dropped (suc k) [] = omega arith
+length_dropped (suc k) (x ∷ xs) = let rest = length_dropped k xs in omega (arith, rest)
+
+noted_fit : (P : Want → Type 0) (wants : List Want) (want : Want) → AllByRecursion P wants → P want → AllByRecursion P (noted wants want)
+noted_fit P wants want all h = cond_both (list_any (is_on want.right) wants) (replaced wants want) (behind wants want) (AllByRecursion P)
+    (λ old. replaced_fit P wants want all h) (λ new. each_dropped P (length wants - 7) (wants ++ want ∷ []) (each_append P wants (want ∷ []) all (h, tt)))
+
+noted_few : (wants : List Want) (want : Want) → length wants ≤ 8 → length (noted wants want) ≤ 8
+noted_few wants want few = cond_both (list_any (is_on want.right) wants) (replaced wants want) (behind wants want) (λ (l : List Want). length l ≤ 8)
+    (λ old. let same = length-map wants (λ (w : Want). cond (is_on want.right w) want w) in omega (arith, same, few))
+    (λ new. let long = length_dropped (length wants - 7) (wants ++ want ∷ []) in let one = length_push wants want in omega (arith, long, one, few))
+
+-- a replica with other wants, and told more
+pub record Hears (setup : Setup) (old new : Replica) : Type 0 where
+  pub wants : List Want
+  pub told : List (List ℕ)
+  pub is : new ≡ record old { wants = wants; told = told }
+  pub fit : AllByRecursion (WantFits setup.spec) wants
+  pub few : length wants ≤ 8
+  pub whole : length told ≡ setup.replicas
+  pub each : AllByRecursion (λ cut. length cut ≡ setup.replicas) told
+
+pub heard_replica : (setup : Setup) (me : ℕ) (old new : Replica) → IsReplica setup me old → Hears setup old new → IsReplica setup me new
+heard_replica setup me old new own h = subst (IsReplica setup me) (sym h.is) (record {
+  me_is = own.me_is; within = own.within; store = own.store; own = own.own; known = own.known; covered = own.covered; holds = own.holds;
+  wants = h.fit; few_wants = h.few; told = h.whole; told_each = h.each;
+})
+
+-- ---- requests
+
+-- short of a need, which is wanted
+pub answered_short : (setup : Setup) (inst : Inst) (old new : Replica) (l : Lacking) → IsReplica setup old.me old → HasNoUpper setup.spec → AllByRecursion IsFew (escrow_needs setup.spec inst)
+    → Some l ≡ first_lacking (holds_of setup old) (escrow_needs setup.spec inst) → new ≡ record old { wants = noted old.wants (want_of l.need) } → HasAnswered setup inst old (outcomes.Short l) new
+answered_short setup inst old new l own lower few is becomes =
+    let want : Want = want_of l.need in
+    let fits : WantFits setup.spec want = want_fits setup.spec l.need (lacking_fits (NeedFits setup.spec) (holds_of setup old) (escrow_needs setup.spec inst) l (needs_fit setup.spec inst lower few) (sym is)) in
+    record {
+      own = heard_replica setup old.me old new own (record { wants = noted old.wants want; told = old.told; is = becomes; fit = noted_fit (WantFits setup.spec) old.wants want own.wants fits; few = noted_few old.wants want own.few_wants; whole = own.told; each = own.told_each });
+      requests = λ stamp sendings. subst (λ o. Requested old.me inst o (standing_of stamp sendings old) (outcomes.Short l) (standing_of stamp sendings new)) is (refl, ap (standing_of stamp sendings) becomes);
+      knows = subst (λ (r : Replica). known_to r ≡ set_log r) (sym becomes) (sym (set_back (known_to old) old.me));
+    }
+  where
+    set_log : Replica → Logs
+    set_log r = slice_set (known_to old) r.me (own_log r)
+
+-- done where nothing is lacking
+pub answered_done : (setup : Setup) (inst : Inst) (old new : Replica) (index : ℕ) → index ≡ length (own_log old) → None ≡ first_lacking (holds_of setup old) (escrow_needs setup.spec inst) → HasLogged setup (body.Act inst) old new
+    → HasAnswered setup inst old (outcomes.Done index) new
+answered_done setup inst old new index at is h = record {
+  own = h.own;
+  requests = λ stamp sendings. subst (λ o. Requested old.me inst o (standing_of stamp sendings old) (outcomes.Done index) (standing_of stamp sendings new)) is (ap outcomes.Done at, h.stands stamp sendings);
+  knows = h.knows;
+}

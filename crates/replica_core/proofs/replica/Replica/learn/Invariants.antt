@@ -1,0 +1,10 @@
+use Rattle.std.specs.Prelude.{take, drop, length}
+use Rattle.replica_core.specs.Replicas.{CanLearn, HasLearned}
+use Rattle.replica_core.proofs.replica.Replica.learn.Given as goal
+
+-- the items so far were learned, and the others can be
+abbrev pub invariant-loop-item : goal.invariant-loop-item
+invariant-loop-item l = record {
+  learned : HasLearned l.spec (take l.item-index l.items) l.fn.self l.self;
+  can : CanLearn l.spec l.self (drop l.item-index l.items);
+}

@@ -1,0 +1,192 @@
+//! What a replica answers to a request, and what it sends.
+
+ghost use Rattle.std.specs.Prelude.{◌≡◌, ◌<◌, ◌≤◌, ◌^◌, All, IfOk, OnOk, length, slice_index, slice_index_or, map, Contains, [], ◌∷◌};
+ghost use Rattle.spec_model.specs.Fits.{InstFits, IsWellFormed};
+ghost use Rattle.run_model.specs.Rights.{first_lacking};
+ghost use Rattle.run_model.specs.Steps.{message_of};
+ghost use Rattle.run_model.specs.Fitting.{WantFits};
+ghost use Rattle.run_model.specs.Wants.{noted, want_less, want_of};
+ghost use Rattle.spec_model.specs.Universe.{cells};
+ghost use Rattle.replica_core.specs.Tables.{HasNoUpper, NeedFits, low_need};
+
+use crate::replica::Replica;
+use crate::wanting::{less, noted as noted_wants};
+use causal_delivery::next_items;
+use effect_model::escrow_needs;
+use ind_base::{List, NoMemory};
+use run_model::{Message, Outcome};
+use spec_model::{Amount, Cell, Held, Inst, Lacking, Level, Need, Right, Setup, Want, WantAsk};
+use std::alloc::Global;
+
+impl Replica {
+    ghost use Rattle.replica_core.specs.Replicas.{HasAnswered, HasRoom, IsReplica, holds_of, known_to, standing_of};
+
+    /// The need of so many rights to lower a cell, if fewer are held.
+    fn lacking_low(&self, setup: &Setup, cell: &Cell, count: u64) -> Option<Lacking>
+        requires well_formed { IsWellFormed setup.now.spec }
+        requires own { IsReplica setup.now self.now.me self.now }
+        requires fits { Contains (cells setup.now.spec) cell.now }
+        requires room { HasRoom 0 self.now }
+        ensures { result ≡ first_lacking (holds_of setup.now self.now) (low_need cell.now count ∷ []) }
+    {
+        let have = self.held(setup, cell);
+        if u128::from(count) <= have {
+            return None;
+        }
+        let need = Need {
+            right: Right::Low(*cell),
+            amount: Amount::Count(count),
+        };
+        Some(Lacking {
+            need,
+            held: Held::Count(have as u64),
+        })
+    }
+
+    /// The need that isn't met, if this one isn't.
+    fn lacking(&self, setup: &Setup, need: &Need) -> Option<Lacking>
+        requires well_formed { IsWellFormed setup.now.spec }
+        requires own { IsReplica setup.now self.now.me self.now }
+        requires fits { NeedFits setup.now.spec need.now }
+        requires room { HasRoom 0 self.now }
+        ensures { result ≡ first_lacking (holds_of setup.now self.now) (need.now ∷ []) }
+    {
+        match &need.right {
+            Right::Low(cell) => match &need.amount {
+                Amount::Count(count) => self.lacking_low(setup, cell, *count),
+                _ => None,
+            },
+            _ => None,
+        }
+    }
+
+    /// The first need that isn't met.
+    fn first_lacking(&self, setup: &Setup, needs: &[Need]) -> Option<Lacking>
+        requires well_formed { IsWellFormed setup.now.spec }
+        requires own { IsReplica setup.now self.now.me self.now }
+        requires fits { All (NeedFits setup.now.spec) needs.now }
+        requires room { HasRoom 0 self.now }
+        ensures { result ≡ first_lacking (holds_of setup.now self.now) needs.now }
+    {
+        for need in needs {
+            let lacking = self.lacking(setup, need);
+            if lacking.is_some() {
+                return lacking;
+            }
+        }
+        None
+    }
+
+    /// Wants what is lacking.
+    fn note(&mut self, alloc: Global, lacking: &Lacking) -> Result<(), NoMemory>
+        requires { length self.old.wants ≤ 8 }
+        ensures { OnOk result (self.new ≡ record self.old { wants = noted self.old.wants (want_of lacking.now.need) }) }
+    {
+        let ask = match &lacking.need.amount {
+            Amount::Count(count) => WantAsk::Count(*count),
+            Amount::Level(level) => WantAsk::Level(*level),
+            Amount::Points(span) => WantAsk::Points(*span),
+            Amount::AnyForbid(_) => WantAsk::Level(Level::Forbid),
+        };
+        let want = Want {
+            right: lacking.need.right,
+            ask,
+        };
+        self.wants = noted_wants(alloc, self.wants.as_slice(), &want)?;
+        Ok(())
+    }
+
+    /// Answers a request: done where all that it needs is held, else short of the first need that
+    /// isn't met, which is wanted from then on.
+    pub fn request(&mut self, alloc: Global, setup: &Setup, inst: &Inst) -> Result<Outcome, NoMemory>
+        requires well_formed { IsWellFormed setup.now.spec }
+        requires lower { HasNoUpper setup.now.spec }
+        requires own { IsReplica setup.now self.old.me self.old }
+        requires fits { InstFits setup.now.spec inst.now }
+        requires room { HasRoom 1 self.old }
+        ensures { IfOk result (λ outcome. HasAnswered setup.now inst.now self.old outcome self.new) }
+    {
+        let needs = escrow_needs(alloc, &setup.spec, inst)?;
+        match self.first_lacking(setup, needs.as_slice()) {
+            Some(lacking) => {
+                self.note(alloc, &lacking)?;
+                Ok(Outcome::Short(lacking))
+            }
+            None => {
+                let index = self.store.log(self.me).len() as u32;
+                self.act(setup, inst)?;
+                Ok(Outcome::Done { index })
+            }
+        }
+    }
+
+    /// How many items of its own log a replica is known to have seen.
+    fn known_by(&self, to: u32) -> u32
+        ensures { result ≡ slice_index (slice_index_or self.now.told to []) self.now.me }
+    {
+        match self.told.get(to as usize) {
+            Some(cut) => cut.get(self.me as usize).unwrap_or(0),
+            None => 0,
+        }
+    }
+
+    /// What is still lacking of a want.
+    fn still_lacking(&self, setup: &Setup, want: &Want) -> Want
+        requires well_formed { IsWellFormed setup.now.spec }
+        requires own { IsReplica setup.now self.now.me self.now }
+        requires fits { WantFits setup.now.spec want.now }
+        requires room { HasRoom 0 self.now }
+        ensures { result ≡ want_less (holds_of setup.now self.now) want.now }
+    {
+        match (&want.right, &want.ask) {
+            (Right::Low(cell), WantAsk::Count(count)) => Want {
+                right: want.right,
+                ask: WantAsk::Count(less(*count, self.held(setup, cell))),
+            },
+            _ => *want,
+        }
+    }
+
+    /// What is still lacking of all wants.
+    fn all_lacking(&self, alloc: Global, setup: &Setup) -> Result<List<Want>, NoMemory>
+        requires well_formed { IsWellFormed setup.now.spec }
+        requires own { IsReplica setup.now self.now.me self.now }
+        requires room { HasRoom 0 self.now }
+        ensures { IfOk result (λ l. l ≡ map (want_less (holds_of setup.now self.now)) self.now.wants) }
+    {
+        let mut lacking = List::new(alloc);
+        for want in self.wants.as_slice() {
+            let _so_far = lacking.as_slice();
+            lacking.push(self.still_lacking(setup, want))?;
+        }
+        Ok(lacking)
+    }
+
+    /// The message that it sends: the next 16 items that the peer isn't known to have seen, what it
+    /// has seen itself, and what it still lacks.
+    pub fn send(
+        &self,
+        alloc: Global,
+        setup: &Setup,
+        to: u32,
+        number: u32,
+        stamp: u64,
+    ) -> Result<Message, NoMemory>
+        requires well_formed { IsWellFormed setup.now.spec }
+        requires own { IsReplica setup.now self.now.me self.now }
+        requires room { HasRoom 0 self.now }
+        ensures { IfOk result (λ m. m ≡ message_of setup.now (known_to self.now) self.now.me to number stamp (standing_of 0 [] self.now)) }
+    {
+        let items = next_items(alloc, self.store.log(self.me), self.known_by(to))?;
+        let wants = self.all_lacking(alloc, setup)?;
+        Ok(Message {
+            from: self.me,
+            to,
+            number,
+            stamp,
+            cut: self.store.cut(),
+            items,
+            wants,
+        })
+    }
+}
