@@ -1,1 +1,3 @@
 pub mod LiteralTurns
+pub mod Shapes
+pub mod Back
