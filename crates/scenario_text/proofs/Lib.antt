@@ -5,3 +5,4 @@ pub mod Formed
 pub mod Documents
 pub mod Fitting
 pub mod Lacks
+pub mod SaidAgain

@@ -5,4 +5,5 @@ pub mod Reading
 pub mod Groups
 pub mod Built
 pub mod Saying
+pub mod Again
 pub mod WellFormed

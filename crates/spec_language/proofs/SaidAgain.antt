@@ -56,7 +56,7 @@ name_first name x xs w n true e later known = same_bytes (name x) w e
 name_first name x xs w n false e later known = later known
 
 -- what is found by its name has that name
-name_back : {X : Type 0} → (name : X → List ℕ) (xs : List X) (w : List ℕ) → is_known name xs w ≡ true → sayings.name_at name xs (place_in name xs w) ≡ w
+pub name_back : {X : Type 0} → (name : X → List ℕ) (xs : List X) (w : List ℕ) → is_known name xs w ≡ true → sayings.name_at name xs (place_in name xs w) ≡ w
 name_back name [] w known = absurd cc
 name_back name (x ∷ xs) w known = name_first name x xs w (place_in name xs w) (bytes_eq (name x) w) refl (name_back name xs w) known
 
@@ -118,7 +118,7 @@ value_back (Some n) = refl
 
 -- ---- each line is said at the end
 
-map_one : {A B : Type 0} → (f : A → B) (xs : List A) (x : A) → map f (xs ++ x ∷ []) ≡ map f xs ++ f x ∷ []
+pub map_one : {A B : Type 0} → (f : A → B) (xs : List A) (x : A) → map f (xs ++ x ∷ []) ≡ map f xs ++ f x ∷ []
 map_one f [] x = refl
 map_one {A} {B} f (y ∷ xs) x = ap (λ (zs : List B). f y ∷ zs) (map_one f xs x)
 
