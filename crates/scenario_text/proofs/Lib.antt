@@ -6,3 +6,4 @@ pub mod Documents
 pub mod Fitting
 pub mod Lacks
 pub mod SaidAgain
+pub mod DocumentAgain

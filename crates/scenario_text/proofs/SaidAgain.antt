@@ -109,6 +109,7 @@ request_back ops op xs known fits = record { name = op_back ops op known; args =
 
 -- a run, behind its line `replicas`
 pub record Late (d : Draft) : Type 0 where
+  pub spec : SpecSaid d.spec
   pub seven : 7 ≤ d.rank
   pub orders : (d.rank ≡ 9 → ⊥) → d.orders ≡ []
   pub turns : d.rank < 10 → d.turns ≡ 0
@@ -155,13 +156,14 @@ done d = Ok d
 
 -- ---- replicas
 
-replicas_late : (s : SpecDraft) (e : Draft) (n : ℕ) → IsSpoken (lines.Replicas n) → drafts.run_step (start s) (lines.Replicas n) ≡ Ok e → Late e
+replicas_late : (s : SpecDraft) (e : Draft) (n : ℕ) → SpecSaid s → IsSpoken (lines.Replicas n) → drafts.run_step (start s) (lines.Replicas n) ≡ Ok e → Late e
 unfolding drafts.run_step sayings.run_lines
-replicas_late s e n one is =
+replicas_late s e n spec one is =
     let t = takens.replicas_taken (start s) e n is in
     let new = with_replicas (start s) n in
     let made : drafts.take_replicas (start s) n ≡ Ok new = is ∙ ap done (sym t.whole) in
     subst Late t.whole (record {
+      spec = spec;
       seven = omega arith;
       orders = λ h. refl;
       turns = λ h. refl;
@@ -195,6 +197,7 @@ stop_late d e replica call keep fill s one is =
     let new = drafts.add_stop d (record { replica = replica; stop = record { call = call; keep = keep; fill = fill } }) in
     let more = late_more d new _ l one (stop_says d replica call keep fill (omega (arith, eight)) none) (is ∙ ap done (sym t.whole)) in
     subst Late t.whole (record {
+      spec = s.spec;
       seven = omega arith;
       orders = λ h. none;
       turns = λ h. l.turns (omega (arith, eight));
@@ -224,6 +227,7 @@ order_late d new e replica ask line s one next whole rank spec turns homes asked
     let l = is_late d s seven in
     let more = late_more d new line l one (order_says d new replica ask line nine same said) (is ∙ ap done (sym whole)) in
     subst Late whole (record {
+      spec = subst SpecSaid (sym spec) s.spec;
       seven = omega (arith, rank);
       orders = λ h. absurd (h rank);
       turns = λ h. turns ∙ l.turns (omega (arith, nine));
@@ -266,7 +270,7 @@ turns_late d e turns s one is =
     let homeless = l.homes (omega (arith, eight)) in
     let quiet = l.asks (omega (arith, eight)) in
     let more = late_more d (with_turns d turns) _ l one (turns_says d turns (omega (arith, eight)) none homeless quiet) (is ∙ ap done (sym t.whole)) in
-    subst Late t.whole (record { seven = omega arith; orders = λ h. none; turns = λ h. absurd (omega (arith, h)); homes = λ h. homeless; asks = λ h. quiet; said = more.0; spoken = more.1 })
+    subst Late t.whole (record { spec = s.spec; seven = omega arith; orders = λ h. none; turns = λ h. absurd (omega (arith, h)); homes = λ h. homeless; asks = λ h. quiet; said = more.0; spoken = more.1 })
 
 -- `turns 0` is read from its text
 zero_read : line_tokens (codes "turns 0") ≡ Ok (Word (codes "turns") ∷ Number 0 ∷ [])
@@ -305,7 +309,7 @@ client_behind d e client home l high one t is =
     let none = l.orders (λ h. omega (arith, high, h)) in
     let quiet = l.asks (omega (arith, eleven)) in
     let more = late_more d (drafts.add_client d home) _ l one (client_says d client home high (eqb-true client (length d.homes) r.0) quiet) (is ∙ ap done (sym t.whole)) in
-    subst Late t.whole (record { seven = omega arith; orders = λ h. none; turns = λ h. absurd (omega (arith, h)); homes = λ h. absurd (omega (arith, h)); asks = λ h. quiet; said = more.0; spoken = more.1 })
+    subst Late t.whole (record { spec = l.spec; seven = omega arith; orders = λ h. none; turns = λ h. absurd (omega (arith, h)); homes = λ h. absurd (omega (arith, h)); asks = λ h. quiet; said = more.0; spoken = more.1 })
 
 -- without a line `turns` the clients go on as behind `turns 0`
 turns_given : (d : Draft) → 7 ≤ d.rank → d.rank ≤ 8 → d.asks ≡ [] → drafts.take_turns d 0 ≡ Ok (with_turns d 0)
@@ -325,7 +329,7 @@ client_first d e client home l eight one t =
     let quiet = l.asks (omega (arith, eight)) in
     let made = turns_given d l.seven eight quiet in
     let more = late_more d (with_turns d 0) (lines.Turns 0) l no_turns_spoken (turns_says d 0 (omega (arith, eight)) none homeless quiet) made in
-    let mid : Late (with_turns d 0) = record { seven = omega arith; orders = λ h. none; turns = λ h. absurd (omega (arith, h)); homes = λ h. homeless; asks = λ h. quiet; said = more.0; spoken = more.1 } in
+    let mid : Late (with_turns d 0) = record { spec = l.spec; seven = omega arith; orders = λ h. none; turns = λ h. absurd (omega (arith, h)); homes = λ h. homeless; asks = λ h. quiet; said = more.0; spoken = more.1 } in
     let step = client_step d e client home (l.turns (omega (arith, eight))) t ∙ ap done t.whole in
     client_behind (with_turns d 0) e client home mid (omega arith) one (takens.client_taken (with_turns d 0) e client home step) step
 
@@ -364,7 +368,7 @@ ask_late d e client ask line s one declared t said is =
     let eleven : 11 ≤ d.rank = behind d.rank d.homes client client_there l.homes (nat_le 11 d.rank) refl in
     let none = l.orders (λ h. omega (arith, eleven, h)) in
     let more = late_more d (drafts.add_ask d client ask) line l one (ask_says d client ask line (omega (arith, eleven)) said) (is ∙ ap done (sym t.whole)) in
-    subst Late t.whole (record { seven = omega arith; orders = λ h. none; turns = λ h. absurd (omega (arith, h)); homes = λ h. absurd (omega (arith, h)); asks = λ h. absurd (omega (arith, h)); said = more.0; spoken = more.1 })
+    subst Late t.whole (record { spec = l.spec; seven = omega arith; orders = λ h. none; turns = λ h. absurd (omega (arith, h)); homes = λ h. absurd (omega (arith, h)); asks = λ h. absurd (omega (arith, h)); said = more.0; spoken = more.1 })
   where
     behind : (n : ℕ) (homes : List ℕ) (c : ℕ) → c < length homes → (n < 11 → homes ≡ []) → (late : Bool) → nat_le 11 n ≡ late → 11 ≤ n
     behind n homes c there homeless true e = leb-true 11 n e
@@ -378,8 +382,8 @@ ask_do_said ops client op xs back = rw (back.name, back.args) refl
 
 -- ---- all lines of a run
 
-run_late : (d e : Draft) (line : RunLine) → Said d → IsSpoken line → drafts.run_step d line ≡ Ok e → Late e
-run_late d e (lines.Replicas n) s one is = elim s.state [ inl early ↦ replicas_late d.spec e n one (subst (λ (x : Draft). drafts.run_step x (lines.Replicas n) ≡ Ok e) early is) | inr late ↦ absurd (too_late late) ]
+pub run_late : (d e : Draft) (line : RunLine) → Said d → IsSpoken line → drafts.run_step d line ≡ Ok e → Late e
+run_late d e (lines.Replicas n) s one is = elim s.state [ inl early ↦ replicas_late d.spec e n s.spec one (subst (λ (x : Draft). drafts.run_step x (lines.Replicas n) ≡ Ok e) early is) | inr late ↦ absurd (too_late late) ]
   where
     too_late : Late d → ⊥
     too_late l =
