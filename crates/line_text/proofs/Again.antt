@@ -144,20 +144,24 @@ word_byte_neat b e = elim (or_true (is_lower b || is_upper b || is_digit b) (eqb
         let low = leb-true 97 b k.0 in
         let high = leb-true b 122 k.1 in
         neat_between b (omega arith) (omega arith)
+
     upper : is_upper b ≡ true → neat b ≡ true
     upper h =
         let k = and_true (leb 65 b) (leb b 90) h in
         let low = leb-true 65 b k.0 in
         let high = leb-true b 90 k.1 in
         neat_between b (omega arith) (omega arith)
+
     digit : is_digit b ≡ true → neat b ≡ true
     digit h =
         let k = and_true (leb 48 b) (leb b 57) h in
         let low = leb-true 48 b k.0 in
         let high = leb-true b 57 k.1 in
         neat_between b (omega arith) (omega arith)
+
     two : (is_lower b || is_upper b) ≡ true → neat b ≡ true
     two h = elim (or_true (is_lower b) (is_upper b) h) [ inl l ↦ lower l | inr u ↦ upper u ]
+
     letters : (is_lower b || is_upper b || is_digit b) ≡ true → neat b ≡ true
     letters h = elim (or_true (is_lower b || is_upper b) (is_digit b) h) [ inl l ↦ two l | inr d ↦ digit d ]
 

@@ -1,5 +1,5 @@
 -- What the readers of a line's parts have read: the tokens are those of what they give.
-use Rattle.std.proofs.Common.{◌≡◌, ℕ, Bool, true, false, cond, List, [], ◌∷◌, ◌++◌, map, refl, sym, ap, subst, ◌∙◌, append_assoc, arith}
+use Rattle.std.proofs.Common.{◌≡◌, ℕ, Bool, true, false, cond, List, [], ◌∷◌, ◌++◌, map, refl, sym, ap, subst, ◌∙◌, append-nil, arith}
 use Rattle.std.specs.Prelude.{Option, Some, None}
 use Rattle.std.specs.Str.{bytes_eq}
 use Rattle.std.proofs.lemmas.Bool.{eqb-true}
@@ -69,7 +69,7 @@ word_is w (Number n) e = absurd cc
 word_is w (Mark b) e = absurd cc
 word_is w Arrow e = absurd cc
 
-both : (t u : Token) (ts rest : List Token) → t ≡ u → ts ≡ rest → t ∷ ts ≡ u ∷ rest
+pub both : (t u : Token) (ts rest : List Token) → t ≡ u → ts ≡ rest → t ∷ ts ≡ u ∷ rest
 both t u ts rest e f = cc
 
 pub mark_read : (c : ℕ) (ts rest : List Token) → after_mark c ts ≡ Some rest → ts ≡ Mark c ∷ rest
@@ -202,3 +202,26 @@ pub list_read : {A : Type 0} → (read : List Token → Option A) (toks : A → 
 list_read read toks back [] p e = absurd cc
 list_read read toks back (t ∷ []) p e = absurd cc
 list_read read toks back (t ∷ u ∷ ts) p e = first read toks back t u ts p (is_mark 40 t) refl e
+
+-- ---- a part, and what is known of the tokens behind it
+
+pub word_then : (ts : List Token) (p : List ℕ × List Token) (us : List Token) → word_at ts ≡ Some p → p.1 ≡ us → ts ≡ Word p.0 ∷ us
+word_then ts p us e f = word_read ts p e ∙ ap (λ (rest : List Token). Word p.0 ∷ rest) f
+
+pub number_then : (ts : List Token) (p : ℕ × List Token) (us : List Token) → number_at ts ≡ Some p → p.1 ≡ us → ts ≡ Number p.0 ∷ us
+number_then ts p us e f = number_read ts p e ∙ ap (λ (rest : List Token). Number p.0 ∷ rest) f
+
+pub mark_then : (c : ℕ) (ts rest us : List Token) → after_mark c ts ≡ Some rest → rest ≡ us → ts ≡ Mark c ∷ us
+mark_then c ts rest us e f = mark_read c ts rest e ∙ ap (λ (more : List Token). Mark c ∷ more) f
+
+pub list_then : {A : Type 0} → (read : List Token → Option A) (toks : A → List Token) → ((g : List Token) (x : A) → read g ≡ Some x → g ≡ toks x) → (ts : List Token) (p : List A × List Token) (us : List Token) → list_at read ts ≡ Some p → p.1 ≡ us → ts ≡ listing_tokens toks p.0 ++ us
+list_then read toks back ts p us e f = list_read read toks back ts p e ∙ ap (λ (rest : List Token). listing_tokens toks p.0 ++ rest) f
+
+pub list_last : {A : Type 0} → (read : List Token → Option A) (toks : A → List Token) → ((g : List Token) (x : A) → read g ≡ Some x → g ≡ toks x) → (ts : List Token) (p : List A × List Token) (u : Unit {0}) → list_at read ts ≡ Some p → ended p.1 ≡ Some u → ts ≡ listing_tokens toks p.0
+list_last read toks back ts p u e f = list_then read toks back ts p [] e (ended_read p.1 u f) ∙ append-nil (listing_tokens toks p.0)
+
+pub flag_last : (w : List ℕ) (ts : List Token) (u : Unit {0}) → ended (flag_at w ts).1 ≡ Some u → ts ≡ flag_tokens (flag_at w ts).0 w
+flag_last w ts u e = flag_read w ts ∙ ap (λ (rest : List Token). flag_tokens (flag_at w ts).0 w ++ rest) (ended_read (flag_at w ts).1 u e) ∙ append-nil (flag_tokens (flag_at w ts).0 w)
+
+pub flag_there : (w : List ℕ) (ts : List Token) → (flag_at w ts).0 ≡ true → ts ≡ Word w ∷ (flag_at w ts).1
+flag_there w ts is = flag_read w ts ∙ ap (λ (b : Bool). flag_tokens b w ++ (flag_at w ts).1) is

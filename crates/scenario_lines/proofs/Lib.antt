@@ -1,0 +1,3 @@
+pub mod Shapes
+pub mod Back
+pub mod Spoken

@@ -106,7 +106,7 @@ spec_formed d e line f t =
       few_asks = f.few_asks;
     })
 
-no_turns : (asked : List ClientAsk) (turns n : ℕ) → asked ≡ [] → turns ≡ 0 → length asked + drafts.courier_turns turns n ≤ 100000
+pub no_turns : (asked : List ClientAsk) (turns n : ℕ) → asked ≡ [] → turns ≡ 0 → length asked + drafts.courier_turns turns n ≤ 100000
 no_turns asked turns n none zero_turns = rw (none, zero_turns) (omega arith)
 
 replicas_formed : (d e : Draft) (n : ℕ) → Formed d → takens.ReplicasTaken d e n → Formed e

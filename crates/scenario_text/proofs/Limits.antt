@@ -8,21 +8,18 @@ use Rattle.run_model.specs.declared.step.Ask.{Ask}
 use Rattle.run_model.specs.declared.step.Ask.TheVariants as asks
 use Rattle.run_model.specs.declared.step.Order.{Order}
 use Rattle.line_text.specs.declared.token.Token.{Token}
-use Rattle.line_text.specs.declared.token.Token.TheVariants.{Word, Number, Mark, Arrow}
-use Rattle.line_text.specs.Texts.{line_tokens}
-use Rattle.line_text.proofs.Guards.{and_true, bind_ok, ok_same}
+use Rattle.line_text.proofs.Guards.{and_true}
 use Rattle.spec_lines.specs.declared.line.SpecLine.{SpecLine}
-use Rattle.spec_lines.specs.Forms.{spec_line}
 use Rattle.scenario_lines.specs.declared.line.RunLine.{RunLine}
 use Rattle.scenario_lines.specs.declared.line.RunLine.TheVariants as lines
-use Rattle.scenario_lines.specs.Forms.{run_line}
 use Rattle.spec_language.proofs.Limits.{fresh_bounds as fresh_spec_bounds, step_keeps as spec_step_keeps}
 use Rattle.scenario_text.specs.declared.document.StopLine.{StopLine}
 use Rattle.scenario_text.specs.declared.document.ClientAsk.{ClientAsk}
 use Rattle.scenario_text.specs.declared.draft.Draft.{Draft}
 use Rattle.scenario_text.specs.Draft as drafts
 use Rattle.scenario_text.specs.Bounds.{Bounds}
-use Rattle.scenario_text.specs.Reading.{accept, taken, taken_run, run_or_unknown, spec_or_run}
+use Rattle.scenario_text.specs.Reading.{accept}
+use Rattle.scenario_text.proofs.LineByLine.{line_keeps_with}
 use Rattle.scenario_text.proofs.Taken as takens
 
 spec_keeps : (d e : Draft) (line : SpecLine) → Bounds d → takens.SpecTaken d e line → Bounds e
@@ -123,35 +120,13 @@ pub record Keeps (P : Draft → Type 0) : Type 0 where
   pub spec : (d e : Draft) (line : SpecLine) → P d → drafts.take_spec d line ≡ Ok e → P e
   pub run : (d e : Draft) (line : RunLine) → P d → drafts.run_step d line ≡ Ok e → P e
 
-run_found : (P : Draft → Type 0) → Keeps P → (d e : Draft) (found : Option RunLine) → P d → run_or_unknown d found ≡ Ok e → P e
-run_found P keeps d e None h is = absurd cc
-run_found P keeps d e (Some line) h is = keeps.run d e line h is
-
-run_taken : (P : Draft → Type 0) → Keeps P → (d e : Draft) (w : List ℕ) (ts : List Token) → P d → taken_run d w ts ≡ Ok e → P e
-run_taken P keeps d e w ts h is =
-    let b = bind_ok (run_line w ts) (run_or_unknown d) e is in
-    run_found P keeps d e b.0 h b.2
-
-spec_found : (P : Draft → Type 0) → Keeps P → (d e : Draft) (w : List ℕ) (ts : List Token) (found : Option SpecLine) → P d → spec_or_run d w ts found ≡ Ok e → P e
-spec_found P keeps d e w ts None h is = run_taken P keeps d e w ts h is
-spec_found P keeps d e w ts (Some line) h is = keeps.spec d e line h is
-
-taken_keeps : (P : Draft → Type 0) → Keeps P → (d e : Draft) (ts : List Token) → P d → taken d ts ≡ Ok e → P e
-unfolding taken
-taken_keeps P keeps d e [] h is = subst P (ok_same d e is) h
-taken_keeps P keeps d e (Word w ∷ ts) h is =
-    let b = bind_ok (spec_line w ts) (spec_or_run d w ts) e is in
-    spec_found P keeps d e w ts b.0 h b.2
-taken_keeps P keeps d e (Number n ∷ ts) h is = absurd cc
-taken_keeps P keeps d e (Mark b ∷ ts) h is = absurd cc
-taken_keeps P keeps d e (Arrow ∷ ts) h is = absurd cc
+abbrev Anything : List Token → Type 0
+Anything ts = Unit {0}
 
 -- what is kept by each step is kept by each line
 pub line_keeps : (P : Draft → Type 0) → Keeps P → (d e : Draft) (line : List ℕ) → P d → accept d line ≡ Ok e → P e
-unfolding accept
 line_keeps P keeps d e line h is =
-    let b = bind_ok (line_tokens line) (taken d) e is in
-    taken_keeps P keeps d e b.0 h b.2
+    line_keeps_with Anything P (record { spec = λ d e w ts line q from h is. keeps.spec d e line h is; run = λ d e w ts line q from h is. keeps.run d e line h is }) d e line (λ ts read. tt) h is
 
 pub bounds_kept : Keeps Bounds
 bounds_kept = record { spec = λ d e line h is. spec_keeps d e line h (takens.spec_taken d e line is); run = run_step_keeps }

@@ -2,5 +2,8 @@ pub mod Requests
 pub mod Draft
 pub mod Bounds
 pub mod Reading
+pub mod Groups
+pub mod Built
 pub mod Saying
+pub mod Again
 pub mod WellFormed

@@ -1,5 +1,5 @@
 -- Which bytes are a document, and which line is refused first.
-use Rattle.std.specs.Prelude.{ℕ, List, [], ◌∷◌, Option, Some, None, Result, Ok, Err}
+use Rattle.std.specs.Prelude.{◌≡◌, ℕ, List, [], ◌∷◌, Option, Some, None, Result, Ok, Err}
 use Rattle.line_text.specs.declared.token.Token.{Token}
 use Rattle.line_text.specs.declared.token.Token.TheVariants.{Word, Number, Mark, Arrow}
 use Rattle.line_text.specs.declared.cause.Cause.{Cause}
@@ -53,3 +53,7 @@ document_of_draft (Err e) = Err e
 -- the document that these bytes are, or the first refused line with its first cause
 abbrev pub document_of : List ℕ → Result Document (ℕ × Cause)
 document_of bytes = document_of_draft (draft_of (lines_of bytes))
+
+-- these bytes are a document
+abbrev pub IsDocument : List ℕ → Type 0
+IsDocument bytes = (d : Document) × (document_of bytes ≡ Ok d)

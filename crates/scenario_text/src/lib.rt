@@ -3,6 +3,7 @@
 
 mod document;
 mod draft;
+mod group;
 mod printing;
 mod reading;
 mod request;
@@ -10,6 +11,7 @@ mod saying;
 
 pub use document::{ClientAsk, Document, StopLine, Work};
 pub use draft::Draft;
+pub use group::{Group, first_of};
 pub use line_text::{Cause, ParseError};
 pub use printing::print_document;
 pub use reading::parse_document;

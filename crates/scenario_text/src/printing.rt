@@ -2,6 +2,7 @@
 
 ghost use Rattle.std.specs.Prelude.{◌≡◌, ◌≤◌, ◌+◌, ◌++◌, length, map, IfOk, OnOk};
 ghost use Rattle.std.specs.List.{flat_map};
+ghost use Rattle.scenario_text.specs.Again.{IsReadAgain};
 ghost use Rattle.scenario_text.specs.Saying as sayings;
 
 use crate::document::{ClientAsk, Document, StopLine, Work};
@@ -98,19 +99,22 @@ fn put_work(out: &mut List<u8>, alloc: Global, ops: &[Op], work: &Work) -> Resul
     }
 }
 
-/// The canonical text of a document.
+fn put_document(out: &mut List<u8>, alloc: Global, document: &Document) -> Result<(), NoMemory>
+    ensures { OnOk result (out.new ≡ out.old ++ sayings.document_text document.now) }
+{
+    let ops = document.spec.ops.as_slice();
+    put_spec(out, alloc, &document.spec)?;
+    put_line(out, &RunLine::Replicas(u64::from(document.replicas)))?;
+    put_stops(out, document.stops.as_slice())?;
+    put_work(out, alloc, ops, &document.work)
+}
+
+/// The canonical text of a document. Reading it gives the document again.
 pub fn print_document(alloc: Global, document: &Document) -> Result<List<u8>, NoMemory>
-    ensures { IfOk result (λ text. text ≡ sayings.document_text document.now) }
+    ensures value { IfOk result (λ text. text ≡ sayings.document_text document.now) }
+    ensures again { IfOk result (λ text. IsReadAgain document.now text) }
 {
     let mut out = List::new(alloc);
-    put_spec(&mut out, alloc, &document.spec)?;
-    put_line(&mut out, &RunLine::Replicas(u64::from(document.replicas)))?;
-    put_stops(&mut out, document.stops.as_slice())?;
-    put_work(
-        &mut out,
-        alloc,
-        document.spec.ops.as_slice(),
-        &document.work,
-    )?;
+    put_document(&mut out, alloc, document)?;
     Ok(out)
 }

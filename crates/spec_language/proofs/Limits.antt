@@ -95,26 +95,37 @@ step_keeps d e (lines.Touch truth pred terms) h is = effect_keeps d e (drafts.op
 step_keeps d e (lines.Change raises amount num names) h is = effect_keeps d e (drafts.op_change d.spec.nums raises amount num names) (λ o p q. sym (ap (λ (x : Op). x.params) (takens.changed d.spec.nums raises amount num names o p q).whole)) h (takens.change_taken d e raises amount num names is)
 step_keeps d e (lines.Free first second) h is = free_keeps d e first second h (takens.free_taken d e first second is)
 
--- what is kept by each step is kept by each line
-found_keeps : (P : SpecDraft → Type 0) → ((d e : SpecDraft) (line : SpecLine) → P d → drafts.step d line ≡ Ok e → P e) → (d e : SpecDraft) (found : Option SpecLine) → P d → step_or_unknown d found ≡ Ok e → P e
-found_keeps P keeps d e None h is = absurd cc
-found_keeps P keeps d e (Some line) h is = keeps d e line h is
+-- what each step keeps, where this is known of the line's tokens
+abbrev pub KeepsWith : (List Token → Type 0) → (SpecDraft → Type 0) → Type 0
+KeepsWith Q P = (d e : SpecDraft) (w : List ℕ) (ts : List Token) (line : SpecLine) → Q (Word w ∷ ts) → spec_line w ts ≡ Ok (Some line) → P d → drafts.step d line ≡ Ok e → P e
 
-taken_keeps : (P : SpecDraft → Type 0) → ((d e : SpecDraft) (line : SpecLine) → P d → drafts.step d line ≡ Ok e → P e) → (d e : SpecDraft) (ts : List Token) → P d → taken d ts ≡ Ok e → P e
+found_keeps : (Q : List Token → Type 0) (P : SpecDraft → Type 0) → KeepsWith Q P → (d e : SpecDraft) (w : List ℕ) (ts : List Token) (found : Option SpecLine) → Q (Word w ∷ ts) → spec_line w ts ≡ Ok found → P d → step_or_unknown d found ≡ Ok e → P e
+found_keeps Q P keeps d e w ts None q from h is = absurd cc
+found_keeps Q P keeps d e w ts (Some line) q from h is = keeps d e w ts line q from h is
+
+taken_keeps : (Q : List Token → Type 0) (P : SpecDraft → Type 0) → KeepsWith Q P → (d e : SpecDraft) (ts : List Token) → Q ts → P d → taken d ts ≡ Ok e → P e
 unfolding taken
-taken_keeps P keeps d e [] h is = subst P (ok_same d e is) h
-taken_keeps P keeps d e (Word w ∷ ts) h is =
+taken_keeps Q P keeps d e [] q h is = subst P (ok_same d e is) h
+taken_keeps Q P keeps d e (Word w ∷ ts) q h is =
     let b = bind_ok (spec_line w ts) (step_or_unknown d) e is in
-    found_keeps P keeps d e b.0 h b.2
-taken_keeps P keeps d e (Number n ∷ ts) h is = absurd cc
-taken_keeps P keeps d e (Mark b ∷ ts) h is = absurd cc
-taken_keeps P keeps d e (Arrow ∷ ts) h is = absurd cc
+    found_keeps Q P keeps d e w ts b.0 q b.1 h b.2
+taken_keeps Q P keeps d e (Number n ∷ ts) q h is = absurd cc
+taken_keeps Q P keeps d e (Mark b ∷ ts) q h is = absurd cc
+taken_keeps Q P keeps d e (Arrow ∷ ts) q h is = absurd cc
 
-pub line_keeps : (P : SpecDraft → Type 0) → ((d e : SpecDraft) (line : SpecLine) → P d → drafts.step d line ≡ Ok e → P e) → (d e : SpecDraft) (line : List ℕ) → P d → accept d line ≡ Ok e → P e
+-- what is kept by each step is kept by each line
+pub line_keeps_with : (Q : List Token → Type 0) (P : SpecDraft → Type 0) → KeepsWith Q P → (d e : SpecDraft) (line : List ℕ) → ((ts : List Token) → line_tokens line ≡ Ok ts → Q ts) → P d → accept d line ≡ Ok e → P e
 unfolding accept
-line_keeps P keeps d e line h is =
+line_keeps_with Q P keeps d e line known h is =
     let b = bind_ok (line_tokens line) (taken d) e is in
-    taken_keeps P keeps d e b.0 h b.2
+    taken_keeps Q P keeps d e b.0 (known b.0 b.1) h b.2
+
+abbrev Anything : List Token → Type 0
+Anything ts = Unit {0}
+
+-- the same where nothing is known of the line
+pub line_keeps : (P : SpecDraft → Type 0) → ((d e : SpecDraft) (line : SpecLine) → P d → drafts.step d line ≡ Ok e → P e) → (d e : SpecDraft) (line : List ℕ) → P d → accept d line ≡ Ok e → P e
+line_keeps P keeps d e line h is = line_keeps_with Anything P (λ d e w ts line q from h is. keeps d e line h is) d e line (λ ts read. tt) h is
 
 pub accept_keeps : (d e : SpecDraft) (line : List ℕ) → Bounds d → accept d line ≡ Ok e → Bounds e
 accept_keeps d e line h is = line_keeps Bounds step_keeps d e line h is

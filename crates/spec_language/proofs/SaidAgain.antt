@@ -25,7 +25,15 @@ use Rattle.spec_lines.specs.declared.line.SpecLine.{SpecLine}
 use Rattle.spec_lines.specs.declared.line.SpecLine.TheVariants as lines
 use Rattle.line_text.specs.declared.cause.Cause.{Cause}
 use Rattle.line_text.specs.Causes.{◌>>=◌}
+use Rattle.line_text.specs.declared.token.Token.{Token}
+use Rattle.line_text.specs.Bytes.{all_plain}
+use Rattle.line_text.specs.Lines.{lines_of}
+use Rattle.line_text.specs.Texts.{line_tokens, read_lines}
+use Rattle.line_text.proofs.Again.{with_end, lines_again}
 use Rattle.line_text.proofs.Guards.{and_true, bind_ok, ok_same}
+use Rattle.spec_lines.specs.Texts.{line_text}
+use Rattle.spec_lines.proofs.Spoken.{IsSpoken, spoken}
+use Rattle.spec_model.specs.declared.spec.Spec.{Spec}
 use Rattle.line_text.proofs.Readings.{read_kept}
 use Rattle.spec_language.specs.declared.draft.SpecDraft.{SpecDraft}
 use Rattle.spec_language.specs.Names.{is_known, place_in}
@@ -33,8 +41,8 @@ use Rattle.spec_language.specs.Draft as drafts
 use Rattle.spec_language.specs.AtStart.{tuple_count}
 use Rattle.spec_language.specs.Saying as sayings
 use Rattle.spec_language.specs.Again.{steps}
-use Rattle.spec_language.specs.Reading.{accept, ends, draft_of}
-use Rattle.spec_language.proofs.Limits.{line_keeps}
+use Rattle.spec_language.specs.Reading.{accept, taken, ends, draft_of, spec_of, spec_of_draft}
+use Rattle.spec_language.proofs.Limits.{KeepsWith, line_keeps_with, all_one}
 use Rattle.spec_language.proofs.Formed.{Ranked, Formed, step_formed, fresh_formed}
 use Rattle.spec_language.proofs.Taken as takens
 
@@ -48,7 +56,7 @@ name_first name x xs w n true e later known = same_bytes (name x) w e
 name_first name x xs w n false e later known = later known
 
 -- what is found by its name has that name
-name_back : {X : Type 0} → (name : X → List ℕ) (xs : List X) (w : List ℕ) → is_known name xs w ≡ true → sayings.name_at name xs (place_in name xs w) ≡ w
+pub name_back : {X : Type 0} → (name : X → List ℕ) (xs : List X) (w : List ℕ) → is_known name xs w ≡ true → sayings.name_at name xs (place_in name xs w) ≡ w
 name_back name [] w known = absurd cc
 name_back name (x ∷ xs) w known = name_first name x xs w (place_in name xs w) (bytes_eq (name x) w) refl (name_back name xs w) known
 
@@ -110,7 +118,7 @@ value_back (Some n) = refl
 
 -- ---- each line is said at the end
 
-map_one : {A B : Type 0} → (f : A → B) (xs : List A) (x : A) → map f (xs ++ x ∷ []) ≡ map f xs ++ f x ∷ []
+pub map_one : {A B : Type 0} → (f : A → B) (xs : List A) (x : A) → map f (xs ++ x ∷ []) ≡ map f xs ++ f x ∷ []
 map_one f [] x = refl
 map_one {A} {B} f (y ∷ xs) x = ap (λ (zs : List B). f y ∷ zs) (map_one f xs x)
 
@@ -288,13 +296,107 @@ again d e line so_far said taken = rw (said, steps_one (sayings.spec_lines d.spe
 pub record Said (d : SpecDraft) : Type 0 where
   pub formed : Formed d
   pub said : steps drafts.fresh (sayings.spec_lines d.spec) ≡ Ok d
+  pub spoken : AllByRecursion IsSpoken (sayings.spec_lines d.spec)
 
-none : steps drafts.fresh (sayings.spec_lines drafts.fresh.spec) ≡ Ok drafts.fresh
+pub none_said : steps drafts.fresh (sayings.spec_lines drafts.fresh.spec) ≡ Ok drafts.fresh
 unfolding sayings.spec_lines
-none = refl
+none_said = refl
 
-step_said : (d e : SpecDraft) (line : SpecLine) → Said d → drafts.step d line ≡ Ok e → Said e
-step_said d e line s is = record { formed = step_formed d e line s.formed is; said = again d e line s.said (step_says d e line s.formed.ranks is) is }
+none_spoken : AllByRecursion IsSpoken (sayings.spec_lines drafts.fresh.spec)
+unfolding sayings.spec_lines
+none_spoken = tt
 
-pub read_said : (texts : List (List ℕ)) (d : SpecDraft) → draft_of texts ≡ Ok d → steps drafts.fresh (sayings.spec_lines d.spec) ≡ Ok d
-read_said texts d is = (read_kept Said accept ends (λ a b line h e. line_keeps Said step_said a b line h e) (λ a b h e. subst Said (ok_same a b e) h) texts 1 drafts.fresh d (record { formed = fresh_formed; said = none }) is).said
+pub fresh_said : Said drafts.fresh
+fresh_said = record { formed = fresh_formed; said = none_said; spoken = none_spoken }
+
+pub step_said : (d e : SpecDraft) (line : SpecLine) → IsSpoken line → Said d → drafts.step d line ≡ Ok e → Said e
+step_said d e line one s is =
+    let says = step_says d e line s.formed.ranks is in
+    record {
+      formed = step_formed d e line s.formed is;
+      said = again d e line s.said says is;
+      spoken = subst (AllByRecursion IsSpoken) (sym says) (all_one IsSpoken (sayings.spec_lines d.spec) line s.spoken one);
+    }
+
+-- the tokens of a line of text
+abbrev pub IsRead : List Token → Type 0
+IsRead ts = (text : List ℕ) × (line_tokens text ≡ Ok ts)
+
+said_kept : KeepsWith IsRead Said
+said_kept d e w ts line read from s is = step_said d e line (spoken read.0 w ts line read.1 from) s is
+
+pub read_said : (texts : List (List ℕ)) (d : SpecDraft) → draft_of texts ≡ Ok d → Said d
+read_said texts d is =
+    read_kept Said accept ends (λ a b line h e. line_keeps_with IsRead Said said_kept a b line (λ ts read. (line, read)) h e) (λ a b h e. subst Said (ok_same a b e) h) texts 1 drafts.fresh d fresh_said is
+
+-- ---- their text gives it again
+
+-- a line that was read is taken by its canonical text as by itself
+pub spoken_taken : (d : SpecDraft) (line : SpecLine) → IsSpoken line → accept d (line_text line) ≡ drafts.step d line
+unfolding accept taken
+spoken_taken d line one = rw (one.said.read, one.formed) refl
+
+abbrev whole : SpecDraft → Result SpecDraft (ℕ × Cause)
+whole d = Ok d
+
+all_taken : (lines : List SpecLine) (number : ℕ) (d e : SpecDraft) → AllByRecursion IsSpoken lines → steps d lines ≡ Ok e → read_lines accept ends number d (map line_text lines) ≡ Ok e
+unfolding read_lines
+all_taken [] number d e all is = ap whole (ok_same d e is)
+all_taken (line ∷ lines) number d e all is =
+    let h = bind_ok (drafts.step d line) (λ (f : SpecDraft). steps f lines) e is in
+    let one = spoken_taken d line all.0 in
+    rw (one, h.1) (all_taken lines (number + 1) h.0 e all.1 h.2)
+
+-- the texts of its lines are the specification again
+pub texts_again : (texts : List (List ℕ)) (d : SpecDraft) → draft_of texts ≡ Ok d → draft_of (map line_text (sayings.spec_lines d.spec)) ≡ Ok d
+texts_again texts d is =
+    let s = read_said texts d is in
+    all_taken (sayings.spec_lines d.spec) 1 drafts.fresh d s.spoken s.said
+
+pub plain_texts : (lines : List SpecLine) → AllByRecursion IsSpoken lines → AllByRecursion (λ text. all_plain text ≡ true) (map line_text lines)
+plain_texts [] all = tt
+plain_texts (line ∷ lines) all = (all.0.said.plain, plain_texts lines all.1)
+
+-- lines with their ends
+pub ended_lines : (lines : List SpecLine) → flat_map sayings.ended_text lines ≡ flat_map with_end (map line_text lines)
+unfolding sayings.ended_text
+ended_lines [] = refl
+ended_lines (line ∷ lines) = ap (λ (bs : List ℕ). with_end (line_text line) ++ bs) (ended_lines lines)
+
+pub flat_both : {A B : Type 0} → (f : A → List B) (xs ys : List A) → flat_map f (xs ++ ys) ≡ flat_map f xs ++ flat_map f ys
+flat_both f [] ys = refl
+flat_both {A} {B} f (x ∷ xs) ys = ap (λ (zs : List B). f x ++ zs) (flat_both f xs ys) ∙ sym (append_assoc (f x) (flat_map f xs) (flat_map f ys))
+
+ops_lines : (sorts : List Sort) (preds : List Pred) (nums : List Num) (ops : List Op) → sayings.ops_text sorts preds nums ops ≡ flat_map sayings.ended_text (flat_map (sayings.say_op sorts preds nums) ops)
+ops_lines sorts preds nums [] = refl
+ops_lines sorts preds nums (op ∷ ops) =
+    ap (λ (bs : List ℕ). flat_map sayings.ended_text (sayings.say_op sorts preds nums op) ++ bs) (ops_lines sorts preds nums ops) ∙ sym (flat_both sayings.ended_text (sayings.say_op sorts preds nums op) (flat_map (sayings.say_op sorts preds nums) ops))
+
+-- the canonical text is that of its lines
+pub text_lines : (s : Spec) → sayings.spec_text s ≡ flat_map sayings.ended_text (sayings.spec_lines s)
+unfolding sayings.spec_lines
+text_lines s =
+    let sorts = map sayings.say_sort s.sorts in
+    let preds = map (sayings.say_pred s.sorts) s.preds in
+    let nums = map (sayings.say_num s.sorts) s.nums in
+    let clauses = map (sayings.say_clause s.sorts s.preds) s.clauses in
+    let ops = flat_map (sayings.say_op s.sorts s.preds s.nums) s.ops in
+    let free = map (sayings.say_free s.ops) s.free in
+    rw (ops_lines s.sorts s.preds s.nums s.ops, flat_both sayings.ended_text sorts (preds ++ (nums ++ (clauses ++ (ops ++ free)))), flat_both sayings.ended_text preds (nums ++ (clauses ++ (ops ++ free))), flat_both sayings.ended_text nums (clauses ++ (ops ++ free)), flat_both sayings.ended_text clauses (ops ++ free), flat_both sayings.ended_text ops free) refl
+
+draft_again : (texts : List (List ℕ)) (d : SpecDraft) → draft_of texts ≡ Ok d → draft_of (lines_of (sayings.spec_text d.spec)) ≡ Ok d
+draft_again texts d is =
+    let s = read_said texts d is in
+    let lines = sayings.spec_lines d.spec in
+    ap (λ (bs : List ℕ). draft_of (lines_of bs)) (text_lines d.spec ∙ ended_lines lines) ∙ ap draft_of (lines_again (map line_text lines) (plain_texts lines s.spoken)) ∙ texts_again texts d is
+
+of_draft : (texts : List (List ℕ)) (r : Result SpecDraft (ℕ × Cause)) (s : Spec) → draft_of texts ≡ r → spec_of_draft r ≡ Ok s → spec_of (lines_of (sayings.spec_text s)) ≡ Ok s
+of_draft texts (Ok d) s is e = subst (λ (t : Spec). spec_of (lines_of (sayings.spec_text t)) ≡ Ok t) (same d s e) (ap spec_of_draft (draft_again texts d is))
+  where
+    same : (a : SpecDraft) (b : Spec) → spec_of_draft (Ok a) ≡ Ok b → a.spec ≡ b
+    same a b q = cc
+of_draft texts (Err c) s is e = absurd cc
+
+-- the canonical text of a specification that was read is that specification
+pub spec_again : (texts : List (List ℕ)) (s : Spec) → spec_of texts ≡ Ok s → spec_of (lines_of (sayings.spec_text s)) ≡ Ok s
+spec_again texts s is = of_draft texts (draft_of texts) s refl is

@@ -2,6 +2,7 @@
 
 ghost use Rattle.std.specs.Prelude.{◌≡◌, ◌++◌, map, IfOk, OnOk};
 ghost use Rattle.std.specs.List.{flat_map};
+ghost use Rattle.spec_language.specs.Again.{IsReadAgain};
 ghost use Rattle.spec_language.specs.Saying as sayings;
 
 use crate::saying::{say_clause, say_free, say_line, say_num, say_op, say_pred, say_sort};
@@ -139,9 +140,10 @@ pub fn put_spec(out: &mut List<u8>, alloc: Global, spec: &Spec) -> Result<(), No
     put_frees(out, alloc, ops, spec.free.as_slice())
 }
 
-/// The canonical text of a specification.
+/// The canonical text of a specification. Reading it gives the specification again.
 pub fn print_spec(alloc: Global, spec: &Spec) -> Result<List<u8>, NoMemory>
-    ensures { IfOk result (λ text. text ≡ sayings.spec_text spec.now) }
+    ensures value { IfOk result (λ text. text ≡ sayings.spec_text spec.now) }
+    ensures again { IfOk result (λ text. IsReadAgain spec.now text) }
 {
     let mut out = List::new(alloc);
     put_spec(&mut out, alloc, spec)?;

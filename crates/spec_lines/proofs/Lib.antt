@@ -1,1 +1,4 @@
 pub mod LiteralTurns
+pub mod Shapes
+pub mod Back
+pub mod Spoken

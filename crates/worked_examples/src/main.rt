@@ -1,10 +1,11 @@
-//! Runs the program on the examples of a file, and tells which are answered otherwise.
+//! Runs the program on the examples of some files, and tells which are answered otherwise.
 //!
 //! An example is a line `%% NAME: STATUS WORDS`, the lines of its input, a line `%=`, and the lines
-//! of its output. Where that line is `%-` the input's last line lacks its end.
+//! of its output. Where that line is `%-` the input's last line lacks its end. A line `%* COUNT TEXT`
+//! stands for so many lines of this text, with the number of the line, from 0, for each `@`.
 #![tactic(auto)]
 
-use ind_base::{List, NoMemory};
+use ind_base::{List, NoMemory, put_num, read_num};
 use ind_io::{MemSink, MemSource};
 use indigo_program::tool;
 use std::alloc::Global;
@@ -12,6 +13,9 @@ use std::{fs, io, mem};
 
 /// The room for an output, in bytes.
 const ROOM: u64 = 1_000_000;
+
+/// The files of examples.
+const FILES: [&str; 3] = ["examples.txt", "language.txt", "limits.txt"];
 
 /// An example: what is asked, and what has to be answered.
 #[derive(Drop)]
@@ -49,6 +53,22 @@ impl Example {
         Ok(())
     }
 
+    /// Takes the lines that a line of repetition stands for.
+    fn take_repeated(&mut self, alloc: Global, line: &[u8]) -> Result<(), NoMemory> {
+        let mut parts = line.splitn(3, |b| *b == b' ');
+        let _mark = parts.next();
+        let count = parts
+            .next()
+            .and_then(|digits| read_num(digits))
+            .unwrap_or(0);
+        let text = parts.next().unwrap_or(b"".as_slice());
+        for number in 0..count {
+            let one = numbered(alloc, text, number)?;
+            self.take(one.as_slice())?;
+        }
+        Ok(())
+    }
+
     /// Whether the program answers as the example says.
     fn is_answered(self, alloc: Global) -> Result<bool, NoMemory> {
         let Example {
@@ -71,6 +91,19 @@ impl Example {
         let got = tool(alloc, words.as_slice(), &mut source, &mut sink);
         Ok(got == status && sink.bytes() == output.as_slice())
     }
+}
+
+/// A text with a number for each `@`.
+fn numbered(alloc: Global, text: &[u8], number: u64) -> Result<List<u8>, NoMemory> {
+    let mut line = List::new(alloc);
+    for b in text {
+        if *b == b'@' {
+            put_num(&mut line, number)?;
+        } else {
+            line.push(*b)?;
+        }
+    }
+    Ok(line)
 }
 
 /// The part of a title behind `: `: a status and the words.
@@ -122,6 +155,8 @@ fn run(alloc: Global, text: &[u8]) -> Result<Tally, NoMemory> {
                 tally.judge(alloc, done)?;
             }
             begun = true;
+        } else if line.starts_with(b"%* ".as_slice()) {
+            example.take_repeated(alloc, line)?;
         } else {
             example.take(line)?;
         }
@@ -131,13 +166,16 @@ fn run(alloc: Global, text: &[u8]) -> Result<Tally, NoMemory> {
 
 fn main(rt: HostRuntime) -> io::Result<()> {
     let alloc = rt.alloc();
-    let text = fs::read(&rt, "examples.txt")?;
-    match run(alloc, text.as_slice()) {
-        Ok(tally) => {
-            let failed = String::from_utf8_lossy(alloc, tally.failed.as_slice())?;
-            let passed = tally.passed;
-            println!(rt; "{failed}{passed} examples are answered as they should be")
+    for name in FILES {
+        let text = fs::read(&rt, name)?;
+        match run(alloc, text.as_slice()) {
+            Ok(tally) => {
+                let failed = String::from_utf8_lossy(alloc, tally.failed.as_slice())?;
+                let passed = tally.passed;
+                println!(rt; "{failed}{name}: {passed} examples are answered as they should be")?
+            }
+            Err(_) => println!(rt; "{name}: there was no memory")?,
         }
-        Err(_) => println!(rt; "there was no memory"),
     }
+    Ok(())
 }

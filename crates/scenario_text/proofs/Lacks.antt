@@ -1,0 +1,343 @@
+-- What a document lacks where no line of it holds a word of a group.
+use Rattle.std.proofs.Common.{◌≡◌, ℕ, ◌+◌, ◌<◌, ◌≤◌, Bool, true, false, cond, ◌||◌, eqb, leb, List, [], ◌∷◌, ◌++◌, length, map, refl, sym, ap, subst, ◌∙◌, arith}
+use Rattle.std.specs.Prelude.{Result, Ok, Err, Option, Some, None, codes, nat_le, nat_lt, pos}
+use Rattle.std.specs.List.{AllByRecursion, list_any}
+use Rattle.std.proofs.lemmas.Bool.{leb-true, eqb-true, lt-leb}
+use Rattle.line_text.specs.declared.cause.Cause.{Cause}
+use Rattle.line_text.specs.declared.token.Token.{Token}
+use Rattle.line_text.specs.declared.token.Token.TheVariants.{Word, Number, Mark}
+use Rattle.line_text.specs.Lines.{lines_of}
+use Rattle.line_text.specs.Texts.{line_tokens}
+use Rattle.line_text.specs.Bytes.{before_comment}
+use Rattle.line_text.specs.Words.{is_among, is_one_of, runs_of, run_before}
+use Rattle.line_text.proofs.Guards.{and_true, ok_same}
+use Rattle.line_text.proofs.Inverse.{listing_tokens, behind_tokens, flag_tokens}
+use Rattle.line_text.proofs.Again.{line_read}
+use Rattle.line_text.proofs.Runs.{IsNoNumber, runs_hold, run_found, runs_ended}
+use Rattle.line_text.proofs.Readings.{read_kept_with, read_taken}
+use Rattle.spec_model.specs.declared.spec.Rule.{Rule}
+use Rattle.spec_model.specs.declared.spec.Rule.TheVariants.{AddWins, RemoveWins, Locked}
+use Rattle.spec_model.specs.declared.spec.Sort.{Sort}
+use Rattle.spec_model.specs.declared.clause.Var.{Var}
+use Rattle.spec_model.specs.declared.operation.Op.{Op}
+use Rattle.spec_model.specs.declared.spec.Pred.{Pred}
+use Rattle.spec_model.specs.declared.spec.Num.{Num}
+use Rattle.spec_model.specs.Truths.{rule_locks}
+use Rattle.spec_lines.specs.declared.item.NamedParam.{NamedParam}
+use Rattle.spec_lines.specs.declared.line.SpecLine.{SpecLine}
+use Rattle.spec_lines.specs.declared.line.SpecLine.TheVariants as spec_lines
+use Rattle.spec_lines.specs.Forms.{spec_line}
+use Rattle.spec_lines.specs.Texts.{rule_text}
+use Rattle.spec_lines.proofs.Shapes as shapes
+use Rattle.spec_lines.proofs.Back as spec_back
+use Rattle.scenario_lines.specs.declared.line.RunLine.{RunLine}
+use Rattle.scenario_lines.specs.declared.line.RunLine.TheVariants as run_lines
+use Rattle.scenario_lines.specs.Forms.{run_line}
+use Rattle.scenario_lines.proofs.Shapes as run_shapes
+use Rattle.scenario_lines.proofs.Back as run_back
+use Rattle.run_model.specs.declared.step.Ask.{Ask}
+use Rattle.run_model.specs.declared.step.Ask.TheVariants as asks
+use Rattle.run_model.specs.declared.step.Order.{Order}
+use Rattle.spec_language.specs.declared.draft.SpecDraft.{SpecDraft}
+use Rattle.spec_language.specs.Draft as spec_drafts
+use Rattle.spec_language.proofs.Taken as spec_takens
+use Rattle.spec_language.proofs.Limits.{all_one, last_keeps}
+use Rattle.scenario_text.specs.declared.document.Work.{Work}
+use Rattle.scenario_text.specs.declared.document.Work.TheVariants as works
+use Rattle.scenario_text.specs.declared.document.Document.{Document}
+use Rattle.scenario_text.specs.declared.draft.Draft.{Draft}
+use Rattle.scenario_text.specs.declared.group.Group.{Group}
+use Rattle.scenario_text.specs.declared.group.Group.TheVariants.{Unbuilt, Schedule, Clients}
+use Rattle.scenario_text.specs.Built.{StaysUp, AllStayUp, IsBuilt, HasNoOrder, IsSchedule, IsLacking}
+use Rattle.scenario_text.specs.Draft as drafts
+use Rattle.scenario_text.specs.Groups.{unbuilt_words, schedule_words, client_words, words_of, HasTokens, holds, first_from, first_line}
+use Rattle.scenario_text.specs.Reading.{accept, draft_of, document_of, document_of_draft}
+use Rattle.scenario_text.proofs.LineByLine.{KeepsWith, line_keeps_with, accepted_tokens}
+use Rattle.scenario_text.proofs.Taken as takens
+
+-- ---- lines that hold none of the words
+
+abbrev Lacks : List (List ℕ) → List Token → Type 0
+Lacks words ts = list_any (is_among words) ts ≡ false
+
+or_false : (a b : Bool) → (a || b) ≡ false → (a ≡ false) × (b ≡ false)
+or_false true b e = absurd cc
+or_false false b e = (refl, e)
+
+lacks_behind : (words : List (List ℕ)) (front back : List Token) → Lacks words (front ++ back) → Lacks words back
+lacks_behind words [] back h = h
+lacks_behind words (t ∷ front) back h = lacks_behind words front back (or_false (is_among words t) (list_any (is_among words) (front ++ back)) h).1
+
+lacks_before : (words : List (List ℕ)) (front back : List Token) → Lacks words (front ++ back) → Lacks words front
+lacks_before words [] back h = refl
+lacks_before words (t ∷ front) back h =
+    let k = or_false (is_among words t) (list_any (is_among words) (front ++ back)) h in
+    rw (k.0) (lacks_before words front back k.1)
+
+abbrev HoldsNone : List (List ℕ) → List ℕ → Type 0
+HoldsNone words line = holds words line ≡ false
+
+none_from : (words : List (List ℕ)) (number : ℕ) (line : List ℕ) (lines : List (List ℕ)) (here : Bool) → holds words line ≡ here → cond here (Some number) (first_from words (number + 1) lines) ≡ None → (HoldsNone words line) × (first_from words (number + 1) lines ≡ None)
+none_from words number line lines true is e = absurd cc
+none_from words number line lines false is e = (is, e)
+
+none_hold : (words : List (List ℕ)) (number : ℕ) (lines : List (List ℕ)) → first_from words number lines ≡ None → AllByRecursion (HoldsNone words) lines
+none_hold words number [] e = tt
+none_hold words number (line ∷ lines) e =
+    let h = none_from words number line lines (holds words line) refl e in
+    (h.0, none_hold words (number + 1) lines h.1)
+
+tokens_lack : (words : List (List ℕ)) (line : List ℕ) → HoldsNone words line → (ts : List Token) → line_tokens line ≡ Ok ts → Lacks words ts
+unfolding holds
+tokens_lack words line none ts read = rw read at none
+
+-- ---- what a line of the specification lacks
+
+rule_open : (rule : Rule) (rest : List Token) → Lacks unbuilt_words (Word (rule_text rule) ∷ rest) → rule_locks rule ≡ false
+rule_open AddWins rest h = refl
+rule_open RemoveWins rest h = refl
+rule_open Locked rest h = absurd cc
+
+no_bound : (max : Option ℕ) → Lacks unbuilt_words (shapes.bound_tokens (codes "max") max) → max ≡ None
+no_bound None h = refl
+no_bound (Some n) h = absurd cc
+
+plain_param : (interval : Bool) → Lacks unbuilt_words (flag_tokens interval (codes "interval")) → interval ≡ false
+plain_param true h = absurd cc
+plain_param false h = refl
+
+abbrev IsPlain : NamedParam → Type 0
+IsPlain p = p.interval ≡ false
+
+one_plain : (p : NamedParam) → Lacks unbuilt_words (shapes.param_tokens p) → IsPlain p
+one_plain p h = plain_param p.interval (lacks_behind unbuilt_words (Word p.name ∷ Mark 58 ∷ Word p.sort ∷ []) (flag_tokens p.interval (codes "interval")) h)
+
+params_behind : (ps : List NamedParam) → Lacks unbuilt_words (behind_tokens shapes.param_tokens ps) → AllByRecursion IsPlain ps
+params_behind [] h = tt
+params_behind (p ∷ ps) h =
+    let k = lacks_behind unbuilt_words (Mark 44 ∷ []) (shapes.param_tokens p ++ behind_tokens shapes.param_tokens ps) h in
+    (one_plain p (lacks_before unbuilt_words (shapes.param_tokens p) (behind_tokens shapes.param_tokens ps) k), params_behind ps (lacks_behind unbuilt_words (shapes.param_tokens p) (behind_tokens shapes.param_tokens ps) k))
+
+params_plain : (ps : List NamedParam) → Lacks unbuilt_words (listing_tokens shapes.param_tokens ps) → AllByRecursion IsPlain ps
+params_plain [] h = tt
+params_plain (p ∷ ps) h =
+    let k = lacks_behind unbuilt_words (Mark 40 ∷ []) (shapes.param_tokens p ++ behind_tokens shapes.param_tokens ps) h in
+    (one_plain p (lacks_before unbuilt_words (shapes.param_tokens p) (behind_tokens shapes.param_tokens ps) k), params_behind ps (lacks_behind unbuilt_words (shapes.param_tokens p) (behind_tokens shapes.param_tokens ps) k))
+
+-- ---- nothing of the first group
+
+abbrev IsOpen : Pred → Type 0
+IsOpen p = rule_locks p.rule ≡ false
+
+abbrev IsUnbounded : Num → Type 0
+IsUnbounded n = n.max ≡ None
+
+abbrev HasNoInterval : Op → Type 0
+HasNoInterval op = AllByRecursion (λ p. p.interval ≡ false) op.params
+
+abbrev OrderStaysUp : Order → Type 0
+OrderStaysUp o = StaysUp o.ask
+
+pub record SpecBuilt (d : SpecDraft) : Type 0 where
+  pub clauses : d.spec.clauses ≡ []
+  pub preds : AllByRecursion IsOpen d.spec.preds
+  pub nums : AllByRecursion IsUnbounded d.spec.nums
+  pub ops : AllByRecursion HasNoInterval d.spec.ops
+  pub free : d.spec.free ≡ []
+
+named_plain : (sorts : List Sort) (ps : List NamedParam) → AllByRecursion IsPlain ps → AllByRecursion (λ (p : Var). p.interval ≡ false) (map (spec_drafts.param_of sorts) ps)
+unfolding spec_drafts.param_of
+named_plain sorts [] h = tt
+named_plain sorts (p ∷ ps) h = (h.0, named_plain sorts ps h.1)
+
+effect_built : (d e : SpecDraft) (f : Op → Result Op Cause) → ((o p : Op) → f o ≡ Ok p → p.params ≡ o.params) → SpecBuilt d → spec_takens.EffectTaken d e f → SpecBuilt e
+effect_built d e f same h t =
+    let ops = last_keeps f HasNoInterval (λ o p is plain. subst (λ (vs : List Var). AllByRecursion (λ (v : Var). v.interval ≡ false) vs) (sym (same o p is)) plain) d.spec.ops t.ops t.last h.ops in
+    subst SpecBuilt t.whole (record { clauses = h.clauses; preds = h.preds; nums = h.nums; ops = ops.0; free = h.free })
+
+bound_none : (max : Option ℕ) → max ≡ None → spec_drafts.bound_of max ≡ None
+bound_none None e = refl
+bound_none (Some n) e = absurd cc
+
+spec_built : (d e : SpecDraft) (line : SpecLine) → Lacks unbuilt_words (shapes.tokens_of_line line) → SpecBuilt d → spec_drafts.step d line ≡ Ok e → SpecBuilt e
+unfolding spec_drafts.step
+spec_built d e (spec_lines.Sort name size) lacks h is =
+    let t = spec_takens.sort_taken d e name size is in
+    subst SpecBuilt t.whole (record { clauses = h.clauses; preds = h.preds; nums = h.nums; ops = h.ops; free = h.free })
+spec_built d e (spec_lines.Pred name sorts rule first) lacks h is =
+    let t = spec_takens.pred_taken d e name sorts rule first is in
+    let rest = Word (rule_text rule) ∷ flag_tokens first (codes "true") in
+    let open' = rule_open rule (flag_tokens first (codes "true")) (lacks_behind unbuilt_words (Word (codes "pred") ∷ Word name ∷ listing_tokens shapes.name_tokens sorts) rest lacks) in
+    subst SpecBuilt t.whole (record { clauses = h.clauses; preds = all_one IsOpen d.spec.preds _ h.preds open'; nums = h.nums; ops = h.ops; free = h.free })
+spec_built d e (spec_lines.Num name sorts init min max) lacks h is =
+    let t = spec_takens.num_taken d e name sorts init min max is in
+    let high = shapes.bound_tokens (codes "max") max in
+    let low = shapes.bound_tokens (codes "min") min in
+    let behind = lacks_behind unbuilt_words (Word (codes "num") ∷ Word name ∷ listing_tokens shapes.name_tokens sorts) (Word (codes "init") ∷ Number init ∷ (low ++ high)) lacks in
+    let none = no_bound max (lacks_behind unbuilt_words (Word (codes "init") ∷ Number init ∷ low) high behind) in
+    subst SpecBuilt t.whole (record { clauses = h.clauses; preds = h.preds; nums = all_one IsUnbounded d.spec.nums _ h.nums (bound_none max none); ops = h.ops; free = h.free })
+spec_built d e (spec_lines.Clause vars premise conclusion mask) lacks h is = absurd cc
+spec_built d e (spec_lines.Op name params) lacks h is =
+    let t = spec_takens.op_taken d e name params is in
+    let plain = params_plain params (lacks_behind unbuilt_words (Word (codes "op") ∷ Word name ∷ []) (listing_tokens shapes.param_tokens params) lacks) in
+    subst SpecBuilt t.whole (record { clauses = h.clauses; preds = h.preds; nums = h.nums; ops = all_one HasNoInterval d.spec.ops _ h.ops (named_plain d.spec.sorts params plain); free = h.free })
+spec_built d e (spec_lines.Touch truth pred ts) lacks h is =
+    effect_built d e (spec_drafts.op_touch d.spec.preds truth pred ts) (λ o p q. sym (ap (λ (x : Op). x.params) (spec_takens.touched d.spec.preds truth pred ts o p q).whole)) h (spec_takens.touch_taken d e truth pred ts is)
+spec_built d e (spec_lines.Change raises amount num names) lacks h is =
+    effect_built d e (spec_drafts.op_change d.spec.nums raises amount num names) (λ o p q. sym (ap (λ (x : Op). x.params) (spec_takens.changed d.spec.nums raises amount num names o p q).whole)) h (spec_takens.change_taken d e raises amount num names is)
+spec_built d e (spec_lines.Free first second) lacks h is = absurd cc
+
+pub record Built (d : Draft) : Type 0 where
+  pub spec : SpecBuilt d.spec
+  pub stops : d.stops ≡ []
+  pub orders : AllByRecursion OrderStaysUp d.orders
+
+order_built : (d e : Draft) (replica : ℕ) (ask : Ask) → StaysUp ask → Built d → takens.OrderTaken d e replica ask → Built e
+order_built d e replica ask up h t = subst Built t.whole (record { spec = h.spec; stops = h.stops; orders = all_one OrderStaysUp d.orders _ h.orders up })
+
+run_built : (d e : Draft) (line : RunLine) → Lacks unbuilt_words (run_shapes.tokens_of_line line) → Built d → drafts.run_step d line ≡ Ok e → Built e
+unfolding drafts.run_step
+run_built d e (run_lines.Replicas n) lacks h is = subst Built (takens.replicas_taken d e n is).whole (record { spec = h.spec; stops = h.stops; orders = h.orders })
+run_built d e (run_lines.Stop replica call keep fill) lacks h is = absurd cc
+run_built d e (run_lines.Do replica op xs) lacks h is = order_built d e replica _ tt h (takens.do_taken d e replica op xs is).order
+run_built d e (run_lines.Send replica peer) lacks h is =
+    let t = takens.send_taken d e replica peer is in
+    subst Built t.whole (record { spec = h.spec; stops = h.stops; orders = all_one OrderStaysUp d.orders _ h.orders tt })
+run_built d e (run_lines.Take replica peer number) lacks h is = order_built d e replica _ tt h (takens.take_taken d e replica peer number is).order
+run_built d e (run_lines.Crash replica) lacks h is = absurd cc
+run_built d e (run_lines.Recover replica) lacks h is = absurd cc
+run_built d e (run_lines.Turns turns) lacks h is = subst Built (takens.turns_taken d e turns is).whole (record { spec = h.spec; stops = h.stops; orders = h.orders })
+run_built d e (run_lines.Client client home) lacks h is = subst Built (takens.client_taken d e client home is).whole (record { spec = h.spec; stops = h.stops; orders = h.orders })
+run_built d e (run_lines.AskDo client op xs) lacks h is = subst Built (takens.request_taken d e client op xs is).ask.whole (record { spec = h.spec; stops = h.stops; orders = h.orders })
+run_built d e (run_lines.AskCrash client) lacks h is = absurd cc
+run_built d e (run_lines.AskRecover client) lacks h is = absurd cc
+
+built_kept : KeepsWith (Lacks unbuilt_words) Built
+built_kept = record {
+  spec = λ d e w ts line lacks from h is.
+      let t = takens.spec_taken d e line is in
+      let same = spec_back.line_back w ts line from in
+      subst Built t.whole (record { spec = spec_built d.spec t.spec line (subst (Lacks unbuilt_words) same lacks) h.spec t.taken; stops = h.stops; orders = h.orders });
+  run = λ d e w ts line lacks from h is. run_built d e line (subst (Lacks unbuilt_words) (run_back.line_back w ts line from) lacks) h is;
+}
+
+-- ---- no line of clients, no line of a schedule
+
+abbrev NoClients : Draft → Type 0
+NoClients d = d.rank ≤ 9
+
+run_no_clients : (d e : Draft) (line : RunLine) → Lacks client_words (run_shapes.tokens_of_line line) → NoClients d → drafts.run_step d line ≡ Ok e → NoClients e
+unfolding drafts.run_step
+run_no_clients d e (run_lines.Replicas n) lacks h is = subst NoClients (takens.replicas_taken d e n is).whole (omega arith)
+run_no_clients d e (run_lines.Stop replica call keep fill) lacks h is = subst NoClients (takens.stop_taken d e replica call keep fill is).whole (omega arith)
+run_no_clients d e (run_lines.Do replica op xs) lacks h is = subst NoClients (takens.do_taken d e replica op xs is).order.whole (omega arith)
+run_no_clients d e (run_lines.Send replica peer) lacks h is = subst NoClients (takens.send_taken d e replica peer is).whole (omega arith)
+run_no_clients d e (run_lines.Take replica peer number) lacks h is = subst NoClients (takens.take_taken d e replica peer number is).order.whole (omega arith)
+run_no_clients d e (run_lines.Crash replica) lacks h is = subst NoClients (takens.alone_taken d e replica asks.Crash is).order.whole (omega arith)
+run_no_clients d e (run_lines.Recover replica) lacks h is = subst NoClients (takens.alone_taken d e replica asks.Recover is).order.whole (omega arith)
+run_no_clients d e (run_lines.Turns turns) lacks h is = absurd cc
+run_no_clients d e (run_lines.Client client home) lacks h is = absurd cc
+run_no_clients d e (run_lines.AskDo client op xs) lacks h is = absurd cc
+run_no_clients d e (run_lines.AskCrash client) lacks h is = absurd cc
+run_no_clients d e (run_lines.AskRecover client) lacks h is = absurd cc
+
+no_clients_kept : KeepsWith (Lacks client_words) NoClients
+no_clients_kept = record {
+  spec = λ d e w ts line lacks from h is. subst NoClients (takens.spec_taken d e line is).whole h;
+  run = λ d e w ts line lacks from h is. run_no_clients d e line (subst (Lacks client_words) (run_back.line_back w ts line from) lacks) h is;
+}
+
+abbrev NoOrders : Draft → Type 0
+NoOrders d = d.orders ≡ []
+
+run_no_orders : (d e : Draft) (line : RunLine) → Lacks schedule_words (run_shapes.tokens_of_line line) → NoOrders d → drafts.run_step d line ≡ Ok e → NoOrders e
+unfolding drafts.run_step
+run_no_orders d e (run_lines.Replicas n) lacks h is = subst NoOrders (takens.replicas_taken d e n is).whole h
+run_no_orders d e (run_lines.Stop replica call keep fill) lacks h is = subst NoOrders (takens.stop_taken d e replica call keep fill is).whole h
+run_no_orders d e (run_lines.Do replica op xs) lacks h is = absurd cc
+run_no_orders d e (run_lines.Send replica peer) lacks h is = absurd cc
+run_no_orders d e (run_lines.Take replica peer number) lacks h is = absurd cc
+run_no_orders d e (run_lines.Crash replica) lacks h is = absurd cc
+run_no_orders d e (run_lines.Recover replica) lacks h is = absurd cc
+run_no_orders d e (run_lines.Turns turns) lacks h is = subst NoOrders (takens.turns_taken d e turns is).whole h
+run_no_orders d e (run_lines.Client client home) lacks h is = subst NoOrders (takens.client_taken d e client home is).whole h
+run_no_orders d e (run_lines.AskDo client op xs) lacks h is = subst NoOrders (takens.request_taken d e client op xs is).ask.whole h
+run_no_orders d e (run_lines.AskCrash client) lacks h is = subst NoOrders (takens.ask_alone_taken d e client asks.Crash is).ask_taken.whole h
+run_no_orders d e (run_lines.AskRecover client) lacks h is = subst NoOrders (takens.ask_alone_taken d e client asks.Recover is).ask_taken.whole h
+
+no_orders_kept : KeepsWith (Lacks schedule_words) NoOrders
+no_orders_kept = record {
+  spec = λ d e w ts line lacks from h is. subst NoOrders (takens.spec_taken d e line is).whole h;
+  run = λ d e w ts line lacks from h is. run_no_orders d e line (subst (Lacks schedule_words) (run_back.line_back w ts line from) lacks) h is;
+}
+
+-- ---- whole documents
+
+ended_same : (d e : Draft) (none : Bool) (c : Cause) → cond none (Err c) (Ok d) ≡ Ok e → d ≡ e
+ended_same d e true c is = absurd cc
+ended_same d e false c is = ok_same d e is
+
+-- what every line keeps that holds none of the words holds of what is read where none does
+none_kept : (words : List (List ℕ)) (P : Draft → Type 0) → KeepsWith (Lacks words) P → P drafts.fresh → (lines : List (List ℕ)) (d : Draft) → AllByRecursion (HoldsNone words) lines → draft_of lines ≡ Ok d → P d
+none_kept words P keeps fresh lines d none is =
+    read_kept_with (HoldsNone words) P accept drafts.ends (λ a b line lacks h e. line_keeps_with (Lacks words) P keeps a b line (tokens_lack words line lacks) h e) (λ a b h e. subst P (ended_same a b (eqb a.replicas 0) _ e) h) lines 1 drafts.fresh d none fresh is
+
+work_up : (d : Draft) (late : Bool) → AllByRecursion OrderStaysUp d.orders → AllStayUp (cond late (works.Clients d.turns d.homes d.asks) (works.Schedule d.orders))
+work_up d true h = tt
+work_up d false h = h
+
+work_empty : (d : Draft) (late : Bool) → d.orders ≡ [] → HasNoOrder (cond late (works.Clients d.turns d.homes d.asks) (works.Schedule d.orders))
+work_empty d true h = tt
+work_empty d false h = h
+
+draft_lacks : (group : Group) (lines : List (List ℕ)) (d : Draft) → AllByRecursion (HoldsNone (words_of group)) lines → draft_of lines ≡ Ok d → IsLacking group (drafts.document_from d)
+draft_lacks Unbuilt lines d none is =
+    let h = none_kept unbuilt_words Built built_kept (record { spec = record { clauses = refl; preds = tt; nums = tt; ops = tt; free = refl }; stops = refl; orders = tt }) lines d none is in
+    record { clauses = h.spec.clauses; preds = h.spec.preds; nums = h.spec.nums; ops = h.spec.ops; free = h.spec.free; stops = h.stops; work = work_up d (nat_le 10 d.rank) h.orders }
+draft_lacks Schedule lines d none is = work_empty d (nat_le 10 d.rank) (none_kept schedule_words NoOrders no_orders_kept refl lines d none is)
+draft_lacks Clients lines d none is =
+    let h = none_kept client_words NoClients no_clients_kept (omega arith) lines d none is in
+    (d.orders, rw (lt-leb 10 d.rank (omega (arith, h))) refl)
+
+abbrev given : Document → Result Document (ℕ × Cause)
+given d = Ok d
+
+of_draft : (group : Group) (lines : List (List ℕ)) (r : Result Draft (ℕ × Cause)) (d : Document) → AllByRecursion (HoldsNone (words_of group)) lines → draft_of lines ≡ r → document_of_draft r ≡ Ok d → IsLacking group d
+of_draft group lines (Ok x) d none is e = subst (IsLacking group) (same x d e) (draft_lacks group lines x none is)
+  where
+    same : (a : Draft) (b : Document) → given (drafts.document_from a) ≡ given b → drafts.document_from a ≡ b
+    same a b q = cc
+of_draft group lines (Err c) d none is e = absurd cc
+
+-- a document in which no line holds a word of the group
+pub lacking : (group : Group) (bytes : List ℕ) (d : Document) → document_of bytes ≡ Ok d → first_line (words_of group) (lines_of bytes) ≡ None → IsLacking group d
+lacking group bytes d is none = of_draft group (lines_of bytes) (draft_of (lines_of bytes)) d (none_hold (words_of group) 1 (lines_of bytes) none) refl is
+
+lines_tokens : (lines : List (List ℕ)) (r : Result Draft (ℕ × Cause)) (d : Document) → draft_of lines ≡ r → document_of_draft r ≡ Ok d → AllByRecursion HasTokens lines
+lines_tokens lines (Ok x) d is e = read_taken HasTokens accept drafts.ends accepted_tokens lines 1 drafts.fresh x is
+lines_tokens lines (Err c) d is e = absurd cc
+
+-- every line of a document has tokens
+pub all_tokens : (bytes : List ℕ) (d : Document) → document_of bytes ≡ Ok d → AllByRecursion HasTokens (lines_of bytes)
+all_tokens bytes d is = lines_tokens (lines_of bytes) (draft_of (lines_of bytes)) d refl is
+
+-- ---- words among the runs of a line
+
+names_begin : (group : Group) → AllByRecursion IsNoNumber (words_of group)
+names_begin Unbuilt = (refl, (refl, (refl, (refl, (refl, (refl, (refl, (refl, (refl, tt)))))))))
+names_begin Schedule = (refl, (refl, (refl, (refl, (refl, tt)))))
+names_begin Clients = (refl, (refl, (refl, tt)))
+
+line_holds : (group : Group) (line : List ℕ) → HasTokens line → holds (words_of group) line ≡ list_any (is_one_of (words_of group)) (runs_of (before_comment line))
+unfolding holds
+line_holds group line known = rw (known.1) (runs_hold (words_of group) (names_begin group) (before_comment line) known.0 (line_read line known.0 known.1).read)
+
+-- a run of the line is a word of the group
+pub run_holds : (group : Group) (line rest run others : List ℕ) → HasTokens line → runs_of rest ≡ run_before run (runs_of others) → is_one_of (words_of group) run ≡ true
+    → list_any (is_one_of (words_of group)) (runs_of rest) ≡ list_any (is_one_of (words_of group)) (runs_of (before_comment line)) → true ≡ holds (words_of group) line
+run_holds group line rest run others known split found so_far = sym (line_holds group line known ∙ sym so_far ∙ run_found (words_of group) (names_begin group) rest run others split found)
+
+-- no run is left
+pub none_holds : (group : Group) (line rest : List ℕ) → HasTokens line → length rest ≡ 0
+    → list_any (is_one_of (words_of group)) (runs_of rest) ≡ list_any (is_one_of (words_of group)) (runs_of (before_comment line)) → false ≡ holds (words_of group) line
+none_holds group line rest known none so_far = sym (line_holds group line known ∙ sym so_far ∙ runs_ended (words_of group) rest none)
