@@ -1,0 +1,11 @@
+pub mod Tuples
+pub mod Sizes
+pub mod Placing
+pub mod Declarations
+pub mod Listing
+pub mod Whole
+pub mod Terms
+pub mod Walks
+pub mod Amounts
+pub mod Untouched
+pub mod Turning

@@ -1,0 +1,77 @@
+-- A tuple's place is found from the first number on, and a tuple from its place.
+use Rattle.std.proofs.Common.{◌≡◌, ℕ, zero, suc, ◌+◌, ◌*◌, ◌/◌, ◌%◌, ◌<◌, ◌≤◌, List, [], ◌∷◌, ◌++◌, map, length, get_or, drop, refl, sym, ap, ◌∙◌, subst, arith, append_assoc, length-append, add-mul, mul_assoc}
+use Rattle.std.specs.List.{AllByRecursion}
+use Rattle.std.proofs.Math.Nat.{mul-div_cancel_left}
+use Rattle.std.proofs.lemmas.List.{drop_more, append-nil}
+use Rattle.std.proofs.lemmas.Nat.{mul-le, mod_below}
+use Rattle.spec_model.specs.declared.spec.Spec.{Spec}
+use Rattle.spec_model.specs.Fits.{SortFits}
+use Rattle.spec_model.specs.Truths.{Within, size_of}
+use Rattle.spec_model.specs.Universe.{tuple_count, sizes_of}
+use Rattle.effect_model.specs.Tuples.{SortsKnown, rank, tuple_at}
+use Rattle.effect_model.proofs.Sizes.{size_some, count_within, all_at, factor_small}
+use Rattle.effect_model.proofs.Tuples.{some_count}
+
+-- the place so far, before these sorts and elements: what is left gives the whole place, and it stays within the count
+pub record IsPlacing (spec : Spec) (total count : ℕ) (place : ℕ) (sorts xs : List ℕ) : Type 0 where
+  pub gives : place * tuple_count (sizes_of spec sorts) + rank (sizes_of spec sorts) xs ≡ total
+  pub room : (place + 1) * tuple_count (sizes_of spec sorts) ≤ count
+  pub within : Within (size_of spec) sorts xs
+
+horner : (p s x w r : ℕ) → (p * s + x) * w + r ≡ p * (s * w) + (x * w + r)
+horner p s x w r =
+    let split : (p * s + x) * w ≡ (p * s) * w + x * w = add-mul (p * s) x w in
+    let turned : (p * s) * w ≡ p * (s * w) = mul_assoc p s w in
+    omega arith
+
+placing_cons : (spec : Spec) (total count place s x : ℕ) (sorts xs : List ℕ) → IsPlacing spec total count place (s ∷ sorts) (x ∷ xs) → IsPlacing spec total count (place * size_of spec s + x) sorts xs
+placing_cons spec total count place s x sorts xs p =
+    let w = tuple_count (sizes_of spec sorts) in
+    let size = size_of spec s in
+    let lt : x < size = p.within.0 in
+    let next : (place + 1) * size ≡ place * size + size = add-mul place 1 size ∙ omega arith in
+    let more : (place * size + x + 1) * w ≤ ((place + 1) * size) * w = mul-le (place * size + x + 1) w ((place + 1) * size) w (omega arith) (omega arith) in
+    let whole : (place + 1) * (size * w) ≤ count = p.room in
+    record {
+      gives = horner place size x w (rank (sizes_of spec sorts) xs) ∙ p.gives;
+      room = omega (arith, mul_assoc (place + 1) size w);
+      within = p.within.1;
+    }
+
+-- one more number was taken
+pub placing_more : (spec : Spec) (total count place i d e : ℕ) (sorts xs : List ℕ) → i < length sorts → i < length xs → IsPlacing spec total count place (drop i sorts) (drop i xs)
+    → IsPlacing spec total count (place * size_of spec (get_or sorts i d) + get_or xs i e) (drop (i + 1) sorts) (drop (i + 1) xs)
+placing_more spec total count place i d e sorts xs lt lx p =
+    placing_cons spec total count place (get_or sorts i d) (get_or xs i e) (drop (i + 1) sorts) (drop (i + 1) xs)
+    (subst (λ (ss : List ℕ). IsPlacing spec total count place ss (get_or xs i e ∷ drop (i + 1) xs)) (drop_more sorts i d lt) (subst (λ (ys : List ℕ). IsPlacing spec total count place (drop i sorts) ys) (drop_more xs i e lx) p))
+
+-- the place so far is below the count
+pub placing_small : (spec : Spec) (total count place : ℕ) (sorts xs : List ℕ) → IsPlacing spec total count place sorts xs → place < count
+placing_small spec total count place sorts xs p =
+    let le = factor_small (place + 1) (tuple_count (sizes_of spec sorts)) (count_within spec sorts xs p.within) in
+    omega (arith, p.room, le)
+
+-- the numbers so far, with those that are still to come, are the tuple
+pub record IsTaking (spec : Spec) (whole : List ℕ) (behind left : ℕ) (args : List ℕ) (sorts : List ℕ) : Type 0 where
+  pub gives : args ++ tuple_at (sizes_of spec sorts) left ≡ whole
+  pub behind_is : behind ≡ tuple_count (sizes_of spec sorts)
+  pub within : left < behind
+
+taking_cons : (spec : Spec) (whole : List ℕ) (behind left s next : ℕ) (args sorts : List ℕ) → 1 ≤ size_of spec s → next ≡ behind / size_of spec s
+    → IsTaking spec whole behind left args (s ∷ sorts) → IsTaking spec whole next (left % next) (args ++ left / next ∷ []) sorts
+taking_cons spec whole behind left s next args sorts some is t =
+    let w = tuple_count (sizes_of spec sorts) in
+    let count : next ≡ w = is ∙ ap (λ n. n / size_of spec s) t.behind_is ∙ mul-div_cancel_left w {n = size_of spec s} (omega arith) in
+    let P : ℕ → Type 0 = λ n. IsTaking spec whole n (left % n) (args ++ left / n ∷ []) sorts in
+    subst P (sym count) (record {
+      gives = append_assoc args (left / w ∷ []) (tuple_at (sizes_of spec sorts) (left % w)) ∙ t.gives;
+      behind_is = refl;
+      within = mod_below left w (some_count (size_of spec s) w left (omega (arith, t.within, t.behind_is)));
+    })
+
+-- one more number was found
+pub taking_more : (spec : Spec) (whole : List ℕ) (behind left i d next : ℕ) (args sorts : List ℕ) → AllByRecursion SortFits spec.sorts → SortsKnown spec sorts → i < length sorts → next ≡ behind / size_of spec (get_or sorts i d)
+    → IsTaking spec whole behind left args (drop i sorts) → IsTaking spec whole next (left % next) (args ++ left / next ∷ []) (drop (i + 1) sorts)
+taking_more spec whole behind left i d next args sorts sizes known lt is t =
+    taking_cons spec whole behind left (get_or sorts i d) next args (drop (i + 1) sorts) (size_some spec (get_or sorts i d) sizes (all_at (λ s. s < length spec.sorts) sorts i d known lt)) is
+    (subst (IsTaking spec whole behind left args) (drop_more sorts i d lt) t)

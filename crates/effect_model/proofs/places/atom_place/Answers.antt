@@ -1,0 +1,11 @@
+use Rattle.std.proofs.Common.{◌≡◌, ◌<◌, ◌∙◌, sym}
+use Rattle.std.proofs.lemmas.Option.{slice_get_within}
+use Rattle.spec_model.specs.Universe.{atoms}
+use Rattle.effect_model.proofs.Listing.{get-atoms}
+use Rattle.effect_model.proofs.places.atom_place.Goals as goal
+
+pub returns-clause-place : goal.returns-clause-place
+returns-clause-place c = get-atoms c.args.spec.now c.place_of.result _ (rw c.as_slice.ensures.value at c.place_of.ensures)
+
+pub returns-clause-within : goal.returns-clause-within
+returns-clause-within c = slice_get_within (atoms c.args.spec.now) c.place_of.result c.args.atom.now (get-atoms c.args.spec.now c.place_of.result _ (rw c.as_slice.ensures.value at c.place_of.ensures))

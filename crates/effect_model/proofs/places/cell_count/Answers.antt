@@ -1,0 +1,6 @@
+use Rattle.std.proofs.Common.{◌≡◌, ◌∙◌, sym}
+use Rattle.effect_model.proofs.Listing.{length-cells}
+use Rattle.effect_model.proofs.places.cell_count.Goals as goal
+
+pub returns-clause-count : goal.returns-clause-count
+returns-clause-count c = (rw c.as_slice.ensures.value at c.count_all.ensures) ∙ sym (length-cells c.args.spec.now)

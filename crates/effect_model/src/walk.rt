@@ -1,0 +1,50 @@
+//! A walk over the tuples at which something is listed, in lexicographic order.
+
+ghost use Rattle.std.specs.Prelude.{◌≡◌, ◌≤◌, ◌+◌, ◌++◌, [], false, length, List as Numbers, ℕ, OnOk};
+ghost use Rattle.std.specs.List.{flat_map};
+ghost use Rattle.spec_model.specs.Universe.{tuples};
+
+use ind_base::{Args, List, NoMemory};
+
+/// What is listed of each tuple.
+pub(crate) trait Listing {
+    type Item: Drop;
+
+    ghost fits: { Self → Type 0 };
+
+    ghost listed: { Self → Numbers ℕ → Numbers Self.Item };
+
+    /// Whether the tuples that begin with these elements have to be looked at.
+    fn goes_on(&self, front: &[u32]) -> bool
+        ensures { result ≡ false → (behind : Numbers ℕ) → listed self.now (front.now ++ behind) ≡ [] };
+
+    /// Appends what is listed of one tuple.
+    fn list(&self, args: &Args, out: &mut List<Self::Item>) -> Result<(), NoMemory>
+        requires { fits self.now }
+        ensures { OnOk result (out.new ≡ out.old ++ listed self.now args.now) };
+}
+
+/// Appends what is listed of each tuple that begins with these elements.
+pub(crate) fn walk<L: Listing>(
+    listing: &L,
+    front: Args,
+    sizes: &[u32],
+    out: &mut List<L::Item>,
+) -> Result<(), NoMemory>
+    requires fits { L.fits listing.now }
+    requires few { length front + length sizes.now ≤ 4 }
+    ensures { OnOk result (out.new ≡ out.old ++ flat_map (λ behind. L.listed listing.now (front ++ behind)) (tuples sizes.now)) }
+{
+    if sizes.is_empty() {
+        return listing.list(&front, out);
+    }
+    let (first, others) = sizes.split_at(1);
+    for x in 0..first[0] {
+        let mut longer = front;
+        longer.push(x);
+        if listing.goes_on(longer.as_slice()) {
+            walk(listing, longer, others, out)?;
+        }
+    }
+    Ok(())
+}
