@@ -37,10 +37,11 @@ fn follows(alloc: Global, rows: &[List<Lit>], step: &Step) -> Result<bool, NoMem
         };
         match what_is_left(row.as_slice(), falses.as_slice()) {
             (0, _) => ended = true,
-            (1, Some(lit)) if !ended && !is_among(falses.as_slice(), lit.var, !lit.yes) => falses.push(Lit {
-                var: lit.var,
-                yes: !lit.yes,
-            })?,
+            (1, Some(lit)) if !ended && !is_among(falses.as_slice(), lit.var, !lit.yes) =>
+                falses.push(Lit {
+                    var: lit.var,
+                    yes: !lit.yes,
+                })?,
             _ => return Ok(false),
         }
     }

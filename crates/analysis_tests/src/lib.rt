@@ -4,6 +4,8 @@
 #[cfg(test)]
 mod derivations;
 #[cfg(test)]
+mod documents;
+#[cfg(test)]
 mod samples;
 #[cfg(test)]
 mod tests;
