@@ -1,13 +1,15 @@
 -- Literals that are made true and taken back, one after the other.
-use Rattle.std.proofs.Common.{◌≡◌, ◌≢◌, ℕ, zero, suc, ◌<◌, ◌≤◌, Bool, true, false, List, [], ◌∷◌, ◌++◌, length, get_or, set, replicate, refl, sym, ap, subst, ◌∙◌, inl, inr, arith}
+use Rattle.std.proofs.Common.{◌≡◌, ◌≢◌, ℕ, zero, suc, ◌+◌, ◌<◌, ◌≤◌, Bool, true, false, not, cond, List, [], ◌∷◌, ◌++◌, length, get_or, set, take, drop, replicate, refl, sym, ap, subst, ◌∙◌, inl, inr, arith}
 use Rattle.std.specs.Prelude.{slice_get, Some, None}
 use Rattle.std.proofs.lemmas.Bool.{cases_eq}
 use Rattle.std.proofs.lemmas.Option.{slice_get-get_or}
-use Rattle.std.proofs.lemmas.List.{get_or-set_other, get_or-set_same, length-replicate, length-set, set-get_or, set-set}
+use Rattle.std.proofs.lemmas.List.{drop_more, get_or-set_other, get_or-set_same, length-replicate, length-set, set-get_or, set-set, take-append-drop}
+use Rattle.std.proofs.lemmas.List.Elements.{filter-append}
 use Rattle.ground_clauses.specs.declared.clauses.Lit.{Lit}
-use Rattle.clause_solver.specs.Assigning.{is_yes, value_at, value_of, with_lit}
+use Rattle.clause_solver.specs.Assigning.{is_yes, kind_of, left, lit_false, value_at, value_of, with_lit}
 use Rattle.clause_solver.specs.Trails.{Follow, Grows, IsEntry, IsTrail, blank, values_after}
 use Rattle.clause_solver.specs.declared.assignment.Entry.{Entry}
+use Rattle.clause_solver.specs.declared.assignment.Left.TheVariants.{Nothing, One, Many}
 use Rattle.clause_solver.specs.declared.assignment.Trail.{Trail}
 use Rattle.clause_solver.specs.declared.assignment.Value.{Value}
 use Rattle.clause_solver.specs.declared.assignment.Value.TheVariants.{Open, No, Yes}
@@ -112,3 +114,16 @@ is_yes-cases Yes e = refl
 
 pub entry_read : (es : List Entry) (at : ℕ) (d : Entry) → at < length es → slice_get es at ≡ Some (get_or es at d)
 entry_read es at d lt = slice_get-get_or es at d lt
+
+many_behind : (xs ys : List Lit) (x : Lit) → (kind_of xs ≡ Nothing → ⊥) → kind_of (xs ++ x ∷ ys) ≡ Many
+many_behind [] ys x some = absurd (some refl)
+many_behind (y ∷ []) ys x some = refl
+many_behind (y ∷ (z ∷ more)) ys x some = refl
+
+-- one more literal behind those that are left
+pub many_left : (vs : List Value) (c : List Lit) (i : ℕ) (d : Lit) → i < length c → (kind_of (left vs (take i c)) ≡ Nothing → ⊥) → lit_false vs (get_or c i d) ≡ false → kind_of (left vs c) ≡ Many
+many_left vs c i d lt some stays =
+    ap (λ ys. kind_of (left vs ys)) (sym (take-append-drop i c) ∙ ap (λ ys. take i c ++ ys) (drop_more c i d lt))
+    ∙ ap kind_of (filter-append (λ x. not (lit_false vs x)) (take i c) (get_or c i d ∷ drop (i + 1) c))
+    ∙ ap (λ b. kind_of (left vs (take i c) ++ cond (not b) (get_or c i d ∷ left vs (drop (i + 1) c)) (left vs (drop (i + 1) c)))) stays
+    ∙ many_behind (left vs (take i c)) (left vs (drop (i + 1) c)) (get_or c i d) some

@@ -147,10 +147,10 @@ impl Trail {
         let mut found = Left::Nothing;
         for lit in clause {
             if !self.is_false(lit) {
-                found = match found {
-                    Left::Nothing => Left::One(*lit),
-                    _ => Left::Many,
-                };
+                match found {
+                    Left::Nothing => found = Left::One(*lit),
+                    _ => return Left::Many,
+                }
             }
         }
         found
