@@ -1,11 +1,10 @@
 -- How long a query can be.
-use Rattle.std.proofs.Common.{◌≡◌, ℕ, zero, suc, ◌+◌, ◌*◌, ◌^◌, ◌<◌, ◌≤◌, max, Bool, true, false, cond, eqb, List, [], ◌∷◌, ◌++◌, map, length, get_or, refl, sym, ap, length-append, ◌∙◌, arith}
+use Rattle.std.proofs.Common.{◌≡◌, ℕ, zero, suc, ◌+◌, ◌*◌, ◌^◌, ◌<◌, ◌≤◌, Bool, true, false, cond, List, [], ◌∷◌, ◌++◌, map, length, refl, ap, length-append, ◌∙◌, arith}
 use Rattle.std.specs.List.{list_any, AllByRecursion, flat_map, filter}
 use Rattle.std.proofs.lemmas.List.{length-map}
 use Rattle.std.proofs.Math.Nat.{mul-suc, mul-le-mul_left, one-le-pow, pow-suc}
 use Rattle.ground_clauses.proofs.Hypotheses.{IsInstance, among_each, each_hypothesis}
 use Rattle.ground_clauses.proofs.Lists.{each_weaker}
-use Rattle.ground_clauses.proofs.Seen.{few}
 use Rattle.ground_clauses.proofs.Shapes.{count_rises}
 use Rattle.ground_clauses.specs.Cases.{assignments, case_hypotheses, case_sets, case_variables, class_count, classes_in, clause_hypotheses, hypotheses, is_relevant, over, pattern_sorts, target_of, upto_from}
 use Rattle.ground_clauses.specs.Listing.{CaseFits}
@@ -13,7 +12,6 @@ use Rattle.ground_clauses.specs.Query.{Hypothesis, Sets, atom_variables, atoms_o
 use Rattle.ground_clauses.specs.declared.case.Case.{Case}
 use Rattle.ground_clauses.specs.declared.state_lit.Variable.{Variable}
 use Rattle.spec_model.specs.Fits.{ClauseFits, IsWellFormed}
-use Rattle.spec_model.specs.Stable.{rises}
 use Rattle.spec_model.specs.Truths.{literals, signed, var_sorts}
 use Rattle.spec_model.specs.declared.clause.Clause.{Clause}
 use Rattle.spec_model.specs.declared.clause.Literal.{Literal}

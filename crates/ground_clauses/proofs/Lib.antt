@@ -1,6 +1,7 @@
 pub mod Asking
 pub mod Bounds
 pub mod Building
+pub mod Counts
 pub mod Derives
 pub mod Finding
 pub mod Forms
@@ -18,5 +19,6 @@ pub mod Refuted
 pub mod Seen
 pub mod Shapes
 pub mod Stands
+pub mod Totals
 pub mod Untouched
 pub mod Values

@@ -385,7 +385,7 @@ has_parts n f count la lb ea eb et a_is b_is each counted =
       back_counted = each_append_right (λ x. f x < count x.sort) eb et (each_append_right (λ x. f x < count x.sort) ea (eb ++ et) counted);
     }
 
-op_one_interval : (spec : Spec) (ops : List Op) (i : ℕ) → AllByRecursion (OpFits spec) ops → OneInterval (get_or ops i no_op).params
+pub op_one_interval : (spec : Spec) (ops : List Op) (i : ℕ) → AllByRecursion (OpFits spec) ops → OneInterval (get_or ops i no_op).params
 op_one_interval spec [] i h = tt
 op_one_interval spec (o ∷ ops) zero h = h.0.one_interval
 op_one_interval spec (o ∷ ops) (suc i) h = op_one_interval spec ops i h.1

@@ -7,7 +7,6 @@ use Rattle.ground_clauses.specs.declared.case.Case.{Case}
 use Rattle.ground_clauses.specs.declared.case.Target.{Target}
 use Rattle.ground_clauses.specs.declared.listing.Shape.{Shape}
 use Rattle.spec_model.specs.Fits.{IsWellFormed}
-use Rattle.spec_model.specs.Stable.{rises}
 use Rattle.spec_model.specs.Truths.{size_of}
 use Rattle.spec_model.specs.declared.spec.Spec.{Spec}
 

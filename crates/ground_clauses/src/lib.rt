@@ -3,6 +3,7 @@
 
 mod case;
 mod clauses;
+mod counting;
 mod instances;
 mod laws;
 mod listing;
@@ -18,6 +19,7 @@ mod walk;
 
 pub use case::{Case, Target};
 pub use clauses::{Cnf, Derivation, Lit, Step};
+pub use counting::case_count;
 pub use laws::{case_keeps, has_its_case, no_model, refuted_holds};
 pub use listing::cases;
 pub use queries::query;

@@ -107,7 +107,7 @@ fn add_first_bits(
 
 /// How many elements a sort has.
 #[tactic(auto, using(crate::proofs::Reaches::past_end))]
-fn size_of(spec: &Spec, sort: u32) -> u32
+pub(crate) fn size_of(spec: &Spec, sort: u32) -> u32
     ensures { result ≡ truths.size_of spec.now sort }
 {
     let sorts = spec.sorts.as_slice();
@@ -247,7 +247,7 @@ fn add_clause_cases(spec: &Spec, a: u32, b: u32, found: &mut List<Case>) -> Resu
 }
 
 /// Whether a rule is for predicates whose opposite effects are never concurrent.
-fn rule_locks(rule: Rule) -> bool
+pub(crate) fn rule_locks(rule: Rule) -> bool
     ensures { result ≡ truths.rule_locks rule }
 {
     match rule {

@@ -1,0 +1,6 @@
+use Rattle.std.proofs.Common.{take}
+use Rattle.clause_solver.specs.Models.{SpeaksOf}
+use Rattle.analysis_tests.proofs.samples.all_within.Given as goal
+
+abbrev pub invariant-loop-clause : goal.invariant-loop-clause
+invariant-loop-clause l = SpeaksOf l.vars (take l.clause-index l.clauses)

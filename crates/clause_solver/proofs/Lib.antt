@@ -1,0 +1,5 @@
+pub mod Found
+pub mod Marks
+pub mod Refutations
+pub mod Searching
+pub mod Steps
