@@ -12,3 +12,4 @@ pub mod Needed
 pub mod Turning
 pub mod Pruned
 pub mod Standing
+pub mod Blocked

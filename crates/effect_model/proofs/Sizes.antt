@@ -33,12 +33,12 @@ pub count_some : (spec : Spec) (sorts : List ℕ) → AllByRecursion SortFits sp
 count_some spec [] sizes known = omega arith
 count_some spec (s ∷ sorts) sizes known = positive (size_of spec s) (tuple_count (sizes_of spec sorts)) (size_some spec s sizes known.0) (count_some spec sorts sizes known.1)
 
--- and over sorts with a tuple of elements
-pub count_within : (spec : Spec) (sorts xs : List ℕ) → Within (size_of spec) sorts xs → 1 ≤ tuple_count (sizes_of spec sorts)
-count_within spec [] [] w = omega arith
-count_within spec [] (x ∷ xs) w = absurd w
-count_within spec (s ∷ sorts) [] w = absurd w
-count_within spec (s ∷ sorts) (x ∷ xs) w = positive (size_of spec s) (tuple_count (sizes_of spec sorts)) (omega (arith, w.0)) (count_within spec sorts xs w.1)
+-- and below sizes with a tuple
+pub count_within : (sizes xs : List ℕ) → Below sizes xs → 1 ≤ tuple_count sizes
+count_within [] [] w = omega arith
+count_within [] (x ∷ xs) w = absurd w
+count_within (s ∷ sizes) [] w = absurd w
+count_within (s ∷ sizes) (x ∷ xs) w = positive s (tuple_count sizes) (omega (arith, w.0)) (count_within sizes xs w.1)
 
 -- a factor is at most the product
 pub factor_small : (a b : ℕ) → 1 ≤ b → a ≤ a * b

@@ -7,3 +7,4 @@ pub mod Touching
 pub mod Turns
 pub mod Amounts
 pub mod Pruning
+pub mod Blocks

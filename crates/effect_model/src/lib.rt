@@ -1,12 +1,14 @@
 //! Effects of operations: the places of atoms and cells, what an instance changes, and what it breaks.
 #![tactic(auto)]
 
+mod block;
 mod breaking;
 mod change;
 mod effects;
 mod escrow;
 mod laws;
 mod layout;
+mod map;
 mod places;
 mod touching;
 mod truth;
@@ -17,5 +19,6 @@ pub use change::{AtomChange, CellChange, Change};
 pub use effects::effect;
 pub use escrow::escrow_needs;
 pub use laws::{changes_are_small, universe_is_all};
+pub use map::Places;
 pub use places::{atom_at, atom_count, atom_place, cell_at, cell_count, cell_place};
 pub use truth::Truth;
