@@ -13,3 +13,4 @@ pub mod Turning
 pub mod Pruned
 pub mod Standing
 pub mod Blocked
+pub mod Filled

@@ -8,3 +8,5 @@ pub mod Turns
 pub mod Amounts
 pub mod Pruning
 pub mod Blocks
+pub mod Contents
+pub mod Firsts
