@@ -10,3 +10,4 @@ pub mod Pruning
 pub mod Blocks
 pub mod Contents
 pub mod Firsts
+pub mod Keys
