@@ -4,3 +4,7 @@ pub mod Groups
 pub mod Readings
 pub mod Guards
 pub mod Spelling
+pub mod Inverse
+pub mod Runs
+pub mod Listing
+pub mod Again

@@ -14,7 +14,7 @@ use Rattle.line_text.specs.Reads.{◌>>=◌}
 use Rattle.line_text.specs.Spelling.{Part, One, Gap, token_text, spell, tokens_in_parts, IsSpelt, begins_apart, is_apart, AreSpelt, all_word}
 use Rattle.line_text.proofs.Guards.{and_true}
 
-own : IsNumeralModel (λ ds. all_ascii_digits ds ≡ true) (value_after 0)
+pub own : IsNumeralModel (λ ds. all_ascii_digits ds ≡ true) (value_after 0)
 own = numerals_by_fold _ (search rules) value_after (search rules)
 
 -- the pieces begin with no run
@@ -48,7 +48,7 @@ run_of b (c ∷ w) rest all apart =
     let shorter = run_of c w rest h.1 apart in
     rw (h.0) (ap (onto_run b) shorter)
 
-or_true : (a b : Bool) → (a || b) ≡ true → (a ≡ true) ⊎ (b ≡ true)
+pub or_true : (a b : Bool) → (a || b) ≡ true → (a ≡ true) ⊎ (b ≡ true)
 or_true true b e = inl refl
 or_true false b e = inr e
 
@@ -56,7 +56,7 @@ one_mark : (p : ℕ → Bool) (b c : ℕ) (rest : Bool) → p c ≡ false → (r
 one_mark p b c rest pc h e = elim (or_true rest (eqb b c) e) [ inl y ↦ h y | inr x ↦ rw (eqb-true b c x) pc ]
 
 -- a test that fails at each mark fails at this one
-mark_fails : (p : ℕ → Bool) (b : ℕ) → p 40 ≡ false → p 41 ≡ false → p 44 ≡ false → p 58 ≡ false → p 42 ≡ false → p 45 ≡ false → p 61 ≡ false
+pub mark_fails : (p : ℕ → Bool) (b : ℕ) → p 40 ≡ false → p 41 ≡ false → p 44 ≡ false → p 58 ≡ false → p 42 ≡ false → p 45 ≡ false → p 61 ≡ false
     → (eqb b 40 || eqb b 41 || eqb b 44 || eqb b 58 || eqb b 42 || eqb b 45 || eqb b 61) ≡ true → p b ≡ false
 mark_fails p b p1 p2 p3 p4 p5 p6 p7 e =
     one_mark p b 61 (eqb b 40 || eqb b 41 || eqb b 44 || eqb b 58 || eqb b 42 || eqb b 45) p7 (one_mark p b 45 (eqb b 40 || eqb b 41 || eqb b 44 || eqb b 58 || eqb b 42) p6 (one_mark p b 42 (eqb b 40 || eqb b 41 || eqb b 44 || eqb b 58) p5 (one_mark p b 58 (eqb b 40 || eqb b 41 || eqb b 44) p4 (one_mark p b 44 (eqb b 40 || eqb b 41) p3 (one_mark p b 41 (eqb b 40) p2 (λ h. rw (eqb-true b 40 h) p1)))))) e
@@ -138,7 +138,7 @@ third false true c d e = refl
 third false false true d e = refl
 third false false false d e = absurd cc
 
-digits_word : (ds : List ℕ) → all_ascii_digits ds ≡ true → all_word ds ≡ true
+pub digits_word : (ds : List ℕ) → all_ascii_digits ds ≡ true → all_word ds ≡ true
 digits_word [] e = refl
 digits_word (d ∷ ds) e =
     let h = and_true (is_digit d) (all_ascii_digits ds) e in

@@ -3,6 +3,7 @@ pub mod Causes
 pub mod Bytes
 pub mod Lines
 pub mod Tokens
+pub mod Words
 pub mod Forms
 pub mod Texts
 pub mod Writing

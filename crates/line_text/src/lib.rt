@@ -15,5 +15,5 @@ pub use forms::{
 };
 pub use limits::line_tokens;
 pub use lines::{all_plain, before_comment, split_line};
-pub use token::{Token, is_word, same, tokens_of};
+pub use token::{Token, is_word, next_run, same, tokens_of};
 pub use writing::{Written, put_list};

@@ -4,6 +4,7 @@ ghost use Rattle.std.specs.Prelude.{◌≡◌, ◌<◌, ◌≤◌, ◌∷◌, le
 ghost use Rattle.std.specs.Str.{bytes_eq};
 ghost use Rattle.line_text.specs.Reads.{Fails, Gives};
 ghost use Rattle.line_text.specs.Tokens as definitions;
+ghost use Rattle.line_text.specs.Words as words;
 
 use crate::cause::FormError;
 use ind_base::{List, Text, read_num};
@@ -119,6 +120,21 @@ fn run_len(bytes: &[u8]) -> usize
         }
     }
     bytes.len()
+}
+
+/// The run of letters, digits and `_` at the front, and the bytes behind it. Where another byte
+/// stands at the front the run is empty, and the bytes are those behind that byte.
+#[tactic(auto, unfolding(crate::specs::Words::runs_of))]
+pub fn next_run(bytes: &[u8]) -> (&[u8], &[u8])
+    requires { 0 < length bytes.now }
+    ensures runs { words.runs_of bytes.now ≡ words.run_before result.0.now (words.runs_of result.1.now) }
+    ensures shorter { length result.1.now < length bytes.now }
+{
+    if is_word_byte(bytes[0]) {
+        bytes.split_at(run_len(bytes))
+    } else {
+        (b"".as_slice(), bytes.split_at(1).1)
+    }
 }
 
 /// The token or blank at the front, and the bytes behind it.

@@ -1,3 +1,2 @@
-pub mod Counters
-pub mod Own
-pub mod Lasts
+pub mod Counts
+pub mod Spent

@@ -1,2 +1,2 @@
-pub mod Counting
+pub mod Tables
 pub mod Replicas

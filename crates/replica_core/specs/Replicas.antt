@@ -1,86 +1,110 @@
 -- A replica of the code, as the definitions of runs see it.
-use Rattle.std.specs.Prelude.{◌≡◌, ◌⊎◌, ℕ, ℤ, pos, ◌-ℤ◌, ◌+◌, ◌-◌, ◌*◌, ◌<◌, ◌≤◌, List, [], ◌∷◌, ◌++◌, length, map, take, replicate, slice_set, if◌then◌else◌, ◌==◌}
-use Rattle.std.specs.List.{AllByRecursion, flat_map}
+use Rattle.std.specs.Prelude.{◌≡◌, ◌≢◌, ℕ, ◌+◌, ◌-◌, ◌<◌, ◌≤◌, ◌^◌, List, [], ◌∷◌, ◌++◌, length, slice_set, sum_by, Contains}
+use Rattle.std.specs.List.{AllByRecursion}
 use Rattle.spec_model.specs.declared.plan.Setup.{Setup}
 use Rattle.spec_model.specs.declared.spec.Spec.{Spec}
-use Rattle.spec_model.specs.declared.spec.Num.{Num}
+use Rattle.spec_model.specs.declared.instance.Cell.{Cell}
 use Rattle.spec_model.specs.declared.instance.Inst.{Inst}
-use Rattle.spec_model.specs.declared.log.Body.TheVariants as body
-use Rattle.spec_model.specs.declared.right.Lacking.{Lacking}
-use Rattle.spec_model.specs.declared.right.Amount.TheVariants as amount
-use Rattle.spec_model.specs.declared.right.Held.TheVariants as held
-use Rattle.run_model.specs.declared.step.Outcome.{Outcome}
-use Rattle.run_model.specs.declared.step.Outcome.TheVariants as outcomes
-use Rattle.run_model.specs.declared.history.CellValue.{CellValue}
-use Rattle.run_model.specs.declared.history.Hold.{Hold}
-use Rattle.run_model.specs.declared.history.Hold.TheVariants as hold
-use Rattle.spec_model.specs.declared.right.Want.{Want}
 use Rattle.spec_model.specs.declared.right.Right.TheVariants as right
-use Rattle.spec_model.specs.declared.right.WantAsk.TheVariants as asked
-use Rattle.run_model.specs.Logs.{Logs, IsAct}
-use Rattle.run_model.specs.States.{lowered_by}
-use Rattle.run_model.specs.Rights.{held_count}
-use Rattle.run_model.specs.Worlds.{Standing, no_cut}
-use Rattle.run_model.specs.Locals.{Local}
+use Rattle.spec_model.specs.declared.log.Body.{Body}
+use Rattle.spec_model.specs.declared.log.Body.TheVariants as body
+use Rattle.spec_model.specs.declared.log.LogItem.{LogItem}
+use Rattle.spec_model.specs.Universe.{cells}
+use Rattle.run_model.specs.declared.message.Message.{Message}
+use Rattle.run_model.specs.declared.step.Ask.TheVariants as asks
+use Rattle.run_model.specs.declared.step.Outcome.{Outcome}
+use Rattle.run_model.specs.Logs.{Logs, log_at}
+use Rattle.run_model.specs.Rights.{body_gains, body_loses, even_share, first_count}
+use Rattle.run_model.specs.Worlds.{Standing, Sending, logged, logged_all}
+use Rattle.run_model.specs.Steps.{Requests, Takes}
+use Rattle.run_model.specs.Fitting.{AreInRow, WantFits}
+use Rattle.causal_store.specs.Stores.{IsStore, cut_in, logs_in}
+use Rattle.replica_core.specs.Tables.{AreHeld}
 use Rattle.replica_core.specs.declared.replica.Replica.{Replica}
-use Rattle.replica_core.specs.Counting.{the_cell}
 
--- the want of so many rights to lower the counter; none where it is 0
-abbrev pub wants_of : ℕ → List Want
-wants_of wanted = if wanted == 0 then [] else record { right = right.Low the_cell; ask = asked.Count wanted } ∷ []
+-- the logs that it knows
+abbrev pub known_to : Replica → Logs
+known_to r = logs_in r.store
 
--- how it stands in a world of so many replicas
-abbrev pub standing_of : ℕ → Replica → Standing
-standing_of replicas r = record {
-  log = r.log;
-  cut = r.cut;
-  stamp = r.stamp;
-  wants = wants_of r.wanted;
-  told = replicate replicas (no_cut replicas);
-  sendings = [];
+-- its own log
+abbrev pub own_log : Replica → List LogItem
+own_log r = log_at (known_to r) r.me
+
+-- an item with this body, the next of its own log, with all that it has seen in its past
+abbrev pub item_of : Replica → Body → LogItem
+item_of r b = record { origin = r.me; index = length (own_log r); deps = cut_in r.store; body = b }
+
+-- how it stands in a world, by its last stamp and the steps in which it sent
+abbrev pub standing_of : ℕ → List Sending → Replica → Standing
+standing_of stamp sendings r = record {
+  log = own_log r;
+  cut = cut_in r.store;
+  stamp = stamp;
+  wants = r.wants;
+  told = r.told;
+  sendings = sendings;
 }
 
--- the logs that it knows: its own
-abbrev pub known_to : ℕ → Replica → Logs
-known_to replicas r = slice_set (replicate replicas []) r.me r.log
+-- what the body accepts is an item of another log that is known
+abbrev pub IsKnown : Logs → ℕ → Body → Type 0
+IsKnown known me (body.Act inst) = Unit {0}
+IsKnown known me (body.Out to r piece) = Unit {0}
+IsKnown known me (body.Accept from at) = (from ≢ me) × (at < length (log_at known from))
 
-abbrev pub local_of : ℕ → Replica → Local
-local_of replicas r = record { standing = standing_of replicas r; known = known_to replicas r }
+-- no more was lost of any right to lower a cell than there was and was gained
+abbrev pub AreCovered : Setup → Logs → ℕ → List LogItem → Type 0
+AreCovered setup known me own = (cell : Cell) → Contains (cells setup.spec) cell
+    → sum_by (λ item. body_loses setup.spec (right.Low cell) item.body) own
+    ≤ even_share (first_count setup.spec (right.Low cell)) setup.replicas me + sum_by (λ item. body_gains setup.spec known (right.Low cell) item.body) own
 
--- replica me, with what it keeps beside its log: what it holds, and how much was lowered
+-- replica me: its own log, what it applied, what it holds, wants and was told
 pub record IsReplica (setup : Setup) (me : ℕ) (r : Replica) : Type 0 where
   pub me_is : r.me ≡ me
   pub within : me < setup.replicas
-  pub acts : AllByRecursion IsAct r.log
-  pub short : length r.log ≤ r.stamp
-  pub cut : r.cut ≡ slice_set (no_cut setup.replicas) me (length r.log)
-  pub held : r.held ≡ held_count setup (known_to setup.replicas r) me r.log (right.Low the_cell)
-  pub lowered : r.lowered ≡ lowered_by setup.spec the_cell r.log
-  pub small : r.lowered ≤ length r.log * 16000000000
+  pub store : IsStore setup.spec setup.replicas r.store
+  pub own : AreInRow me 0 (log_at (known_to r) me)
+  pub known : AllByRecursion (λ item. IsKnown (known_to r) me item.body) (log_at (known_to r) me)
+  pub covered : AreCovered setup (known_to r) me (log_at (known_to r) me)
+  pub holds : AreHeld setup (known_to r) me (log_at (known_to r) me) r.lows
+  pub wants : AllByRecursion (WantFits setup.spec) r.wants
+  pub few_wants : length r.wants ≤ 8
+  pub told : length r.told ≡ setup.replicas
+  pub told_each : AllByRecursion (λ cut. length cut ≡ setup.replicas) r.told
 
--- the replica once this instance, which lowers the counter so much, stands at the end of its log
-abbrev pub acted : Inst → ℕ → Replica → Replica
-acted inst falls r = record r {
-  log = r.log ++ record { origin = r.me; index = length r.log; deps = r.cut; body = body.Act inst } ∷ [];
-  cut = slice_set r.cut r.me (length r.log + 1);
-  held = r.held - falls;
-  lowered = r.lowered + falls;
-}
+-- it may log so many more items of its own
+abbrev pub HasRoom : ℕ → Replica → Type 0
+HasRoom n r = length (own_log r) + n < 2 ^ 32
 
--- so many rights are needed, and fewer are held
-abbrev pub lacking_low : ℕ → ℕ → Lacking
-lacking_low falls have = record { need = record { right = right.Low the_cell; amount = amount.Count falls }; held = held.Count have }
+-- its own log has grown to this, and all else that it knows is as before
+abbrev pub KnowsOwn : Logs → Replica → Type 0
+KnowsOwn known r = known_to r ≡ slice_set known r.me (own_log r)
 
--- an instance that lowers the counter so much is done where as many rights are held, and else wanted
-abbrev pub IsAnswered : Inst → ℕ → Replica → Outcome → Replica → Type 0
-IsAnswered inst falls old outcome new =
-    ((falls ≤ old.held) × (outcome ≡ outcomes.Done (length old.log)) × (new ≡ acted inst falls old))
-    ⊎ ((old.held < falls) × (outcome ≡ outcomes.Short (lacking_low falls old.held)) × (new ≡ record old { wanted = falls }))
+-- the replica once it has logged this body, and stands as the definitions say
+pub record HasLogged (setup : Setup) (b : Body) (old new : Replica) : Type 0 where
+  pub own : IsReplica setup old.me new
+  pub stands : (stamp : ℕ) (sendings : List Sending) → standing_of stamp sendings new ≡ logged old.me b (standing_of stamp sendings old)
+  pub knows : KnowsOwn (known_to old) new
 
--- the value of the counter, if there is one, after it was lowered so much
-abbrev pub values_after : Spec → ℕ → List CellValue
-values_after spec lowered = map (λ num. record { cell = the_cell; value = num.init -ℤ pos lowered }) (take 1 spec.nums)
+-- or several bodies
+pub record HasLoggedAll (setup : Setup) (bodies : List Body) (old new : Replica) : Type 0 where
+  pub own : IsReplica setup old.me new
+  pub stands : (stamp : ℕ) (sendings : List Sending) → standing_of stamp sendings new ≡ logged_all old.me bodies (standing_of stamp sendings old)
+  pub knows : KnowsOwn (known_to old) new
 
--- what is shown of so many rights, if there is a counter
-abbrev pub holds_of : Spec → ℕ → List Hold
-holds_of spec have = flat_map (λ num. if have == 0 then [] else hold.Count (right.Low the_cell) have ∷ []) (take 1 spec.nums)
+-- a request was answered so
+pub record HasAnswered (setup : Setup) (inst : Inst) (old : Replica) (outcome : Outcome) (new : Replica) : Type 0 where
+  pub own : IsReplica setup old.me new
+  pub requests : (stamp : ℕ) (sendings : List Sending) → Requests setup (known_to old) old.me inst (standing_of stamp sendings old) outcome (standing_of stamp sendings new)
+  pub knows : KnowsOwn (known_to old) new
+
+-- the logs that are known once these items of another log are applied
+abbrev pub with_items : ℕ → List LogItem → Logs → Logs
+with_items from applied known = slice_set known from (log_at known from ++ applied)
+
+-- a message was taken so
+pub record HasTaken (setup : Setup) (message : Message) (old : Replica) (outcome : Outcome) (new : Replica) : Type 0 where
+  pub own : IsReplica setup old.me new
+  pub applied : List LogItem
+  pub takes : (stamp : ℕ) (sendings : List Sending)
+      → Takes setup (with_items message.from applied (known_to old)) old.me message applied (standing_of stamp sendings old) outcome (standing_of stamp sendings new)
+  pub knows : KnowsOwn (with_items message.from applied (known_to old)) new

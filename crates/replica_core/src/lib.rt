@@ -1,7 +1,9 @@
-//! One replica: what it holds, and what it decides by itself.
+//! One replica: what it has applied, what it holds, and what it decides by itself.
 #![tactic(auto)]
 
-mod counter;
 mod replica;
+mod rights;
+mod spending;
+mod wanting;
 
 pub use replica::Replica;

@@ -1,39 +1,46 @@
-//! A replica of a run over one counter.
+//! A replica of a run.
 
-ghost use Rattle.std.specs.Prelude.{◌≡◌, ◌+◌, ◌-◌, ◌*◌, ◌<◌, ◌≤◌, ◌^◌, [], ◌∷◌, ◌++◌, length, IfOk, OnOk, OnErr, None};
-ghost use Rattle.spec_model.specs.Counters.{IsCounterSpec};
-ghost use Rattle.run_model.specs.declared.step.Ask.TheVariants as asks;
-ghost use Rattle.run_model.specs.declared.step.Outcome.TheVariants as outcomes;
-ghost use Rattle.run_model.specs.Worlds as worlds;
-ghost use Rattle.run_model.specs.Finals.{final_of};
-ghost use Rattle.replica_core.specs.Counting.{lowers};
-ghost use Rattle.run_model.specs.Locals.{LocalSteps, first_local};
+ghost use Rattle.std.specs.Prelude.{◌≡◌, ◌≢◌, ◌+◌, ◌<◌, ◌≤◌, ◌^◌, ◌++◌, ◌∷◌, [], ℕ, List, IfOk, OnOk, length, replicate, slice_get, slice_set, Contains, Some};
+ghost use Rattle.std.specs.List.{AllByRecursion};
+ghost use Rattle.spec_model.specs.Fits.{InstFits, IsWellFormed};
+ghost use Rattle.spec_model.specs.Needs.{spends};
+ghost use Rattle.spec_model.specs.Universe.{cells};
+ghost use Rattle.spec_model.specs.declared.instance.Cell.{Cell as CellOf};
+ghost use Rattle.spec_model.specs.declared.log.Body.TheVariants as body;
+ghost use Rattle.spec_model.specs.declared.log.LogItem.{LogItem as ItemOf};
+ghost use Rattle.spec_model.specs.declared.right.Piece.TheVariants as piece;
+ghost use Rattle.spec_model.specs.declared.right.Right.TheVariants as right;
+ghost use Rattle.run_model.specs.Fitting.{BodyFits};
+ghost use Rattle.run_model.specs.Logs.{item_at};
+ghost use Rattle.run_model.specs.Rights.{held_count};
+ghost use Rattle.run_model.specs.Worlds.{first_standing, no_cut};
+ghost use Rattle.causal_store.specs.Stores.{IsStore, cut_in, logs_in};
 
-use crate::counter::{first_share, inst_lowers, the_cell};
+use crate::rights::{first_rights, gain, held_at, lose};
+use crate::spending::spend;
+use causal_store::Store;
 use ind_base::{Cut, List, NoMemory};
-use run_model::{Ask, CellValue, Final, Hold, Outcome, StepEntry};
-use spec_model::{Amount, Body, Held, Inst, Lacking, LogItem, Need, Right, Setup};
+use spec_model::{Body, Cell, Inst, LogItem, Piece, Right, Setup, Spec, Want};
 use std::alloc::Global;
 
-/// A replica: its log, what it has seen, and what it holds of the one counter.
+/// A replica: what it has applied, what it holds of the rights to lower cells, what it wants, and
+/// what the others told it that they have seen.
 #[derive(Debug, Drop)]
 pub struct Replica {
-    pub me: u32,
-    pub log: List<LogItem>,
-    pub cut: Cut,
-    pub stamp: u64,
-    /// How many rights to lower the counter it wants; 0 where it wants none.
-    pub wanted: u64,
-    /// How many rights to lower the counter it holds.
-    pub held: u64,
-    /// How much the acts in its cut lower the counter.
-    pub lowered: u64,
+    pub(crate) me: u32,
+    pub(crate) store: Store,
+    /// How many rights to lower each cell it holds, by the cell's place.
+    pub(crate) lows: List<u128>,
+    /// What it lacked, at most 8 wants.
+    pub(crate) wants: List<Want>,
+    /// The greatest cut that each replica told it.
+    pub(crate) told: List<Cut>,
 }
 
 /// A cut of nothing.
-fn no_cut(replicas: u32) -> Cut
+fn no_cut_of(replicas: u32) -> Cut
     requires { replicas ≤ 16 }
-    ensures { result ≡ worlds.no_cut replicas }
+    ensures { result ≡ no_cut replicas }
 {
     let mut cut = Cut::new();
     for _i in 0..replicas {
@@ -42,151 +49,121 @@ fn no_cut(replicas: u32) -> Cut
     cut
 }
 
+/// Nothing was told by so many replicas.
+fn nothing_told(alloc: Global, replicas: u32) -> Result<List<Cut>, NoMemory>
+    requires { replicas ≤ 16 }
+    ensures { IfOk result (λ told. told ≡ replicate replicas (no_cut replicas)) }
+{
+    let cut = no_cut_of(replicas);
+    let mut told = List::new(alloc);
+    for _i in 0..replicas {
+        told.push(cut)?;
+    }
+    Ok(told)
+}
+
 impl Replica {
-    ghost use Rattle.replica_core.specs.Replicas.{IsAnswered, IsReplica, acted, holds_of, known_to, lacking_low, local_of, standing_of, values_after};
+    ghost use Rattle.replica_core.specs.Replicas.{HasLogged, HasRoom, IsReplica, item_of, known_to, own_log, standing_of};
 
     /// A replica before its first step.
-    pub fn begin(alloc: Global, setup: &Setup, me: u32) -> Replica
-        requires counter { IsCounterSpec setup.now.spec }
+    pub fn begin(alloc: Global, setup: &Setup, me: u32) -> Result<Replica, NoMemory>
+        requires well_formed { IsWellFormed setup.now.spec }
         requires place { me < setup.now.replicas }
         requires few { setup.now.replicas ≤ 16 }
-        ensures begins { local_of setup.now.replicas result ≡ first_local setup.now.replicas }
-        ensures own { IsReplica setup.now me result }
-        ensures stamp { result.stamp ≡ 0 }
+        ensures own { IfOk result (IsReplica setup.now me) }
+        ensures stands { IfOk result (λ r. standing_of 0 [] r ≡ first_standing setup.now.replicas) }
+        ensures knows { IfOk result (λ r. known_to r ≡ replicate setup.now.replicas []) }
     {
-        Replica {
+        Ok(Replica {
             me,
-            log: List::new(alloc),
-            cut: no_cut(setup.replicas),
-            stamp: 0,
-            wanted: 0,
-            held: first_share(setup, me),
-            lowered: 0,
-        }
+            store: Store::begin(alloc, setup.replicas)?,
+            lows: first_rights(alloc, setup, me)?,
+            wants: List::new(alloc),
+            told: nothing_told(alloc, setup.replicas)?,
+        })
     }
 
-    /// Puts the act at the end of the log. Without memory nothing changes.
-    fn act(&mut self, inst: &Inst, falls: u64) -> Result<Outcome, NoMemory>
-        requires held { falls ≤ self.old.held }
-        requires room { (length self.old.log < 2 ^ 32 - 1) × (self.old.lowered + falls < 2 ^ 64) }
-        requires place { self.old.me < length self.old.cut }
-        ensures done { IfOk result (λ outcome. outcome ≡ outcomes.Done (length self.old.log)) }
-        ensures acted { OnOk result (self.new ≡ acted inst.now falls self.old) }
-        ensures err { OnErr result (self.new ≡ self.old) }
+    /// How many rights to lower a cell it holds.
+    pub(crate) fn held(&self, setup: &Setup, cell: &Cell) -> u128
+        requires well_formed { IsWellFormed setup.now.spec }
+        requires own { IsReplica setup.now self.now.me self.now }
+        requires fits { Contains (cells setup.now.spec) cell.now }
+        requires room { HasRoom 0 self.now }
+        ensures value { result ≡ held_count setup.now (known_to self.now) self.now.me (own_log self.now) (right.Low cell.now) }
+        ensures small { result < 2 ^ 98 }
     {
-        let index = self.log.len() as u32;
-        let _so_far = self.log.as_slice();
-        self.log.push(LogItem {
+        held_at(&self.lows, &setup.spec, cell)
+    }
+
+    /// Puts an item at the end of its own log.
+    fn log(&mut self, spec: &Spec, body: Body) -> Result<(), NoMemory>
+        requires store { IsStore spec.now (length (known_to self.old)) self.old.store }
+        requires place { self.old.me < length (known_to self.old) }
+        requires fits { BodyFits spec.now body }
+        requires room { HasRoom 1 self.old }
+        ensures kept { OnOk result (self.new ≡ record self.old { store = self.new.store }) }
+        ensures logs { OnOk result (known_to self.new ≡ slice_set (known_to self.old) self.old.me (own_log self.old ++ item_of self.old body ∷ [])) }
+        ensures store { OnOk result (IsStore spec.now (length (known_to self.old)) self.new.store) }
+    {
+        let index = self.store.log(self.me).len() as u32;
+        let item = LogItem {
             origin: self.me,
             index,
-            deps: self.cut,
-            body: Body::Act(*inst),
-        })?;
-        self.cut.set(self.me as usize, index + 1);
-        self.held -= falls;
-        self.lowered += falls;
-        Ok(Outcome::Done { index })
-    }
-
-    /// Wants so many rights, of which fewer are held.
-    fn want(&mut self, falls: u64) -> Outcome
-        ensures short { result ≡ outcomes.Short (lacking_low falls self.old.held) }
-        ensures wanted { self.new ≡ record self.old { wanted = falls } }
-    {
-        self.wanted = falls;
-        let need = Need {
-            right: Right::Low(the_cell()),
-            amount: Amount::Count(falls),
+            deps: self.store.cut(),
+            body,
         };
-        Outcome::Short(Lacking {
-            need,
-            held: Held::Count(self.held),
-        })
+        self.store.apply(spec, &item)
     }
 
-    /// Acts where the rights are held, and else wants them. Without memory nothing changes.
-    fn answer(&mut self, setup: &Setup, inst: &Inst) -> Result<Outcome, NoMemory>
-        requires counter { IsCounterSpec setup.now.spec }
-        requires fits { inst.now.op < length setup.now.spec.ops }
-        requires room { (length self.old.log < 2 ^ 32 - 1) × (self.old.lowered < 2 ^ 60) }
-        requires place { self.old.me < length self.old.cut }
-        ensures answered { IfOk result (λ outcome. IsAnswered inst.now (lowers setup.now.spec inst.now) self.old outcome self.new) }
-        ensures err { OnErr result (self.new ≡ self.old) }
-    {
-        let falls = inst_lowers(&setup.spec, inst);
-        if falls <= self.held {
-            self.act(inst, falls)
-        } else {
-            Ok(self.want(falls))
-        }
-    }
-
-    /// Answers a request, with the next stamp: done where all that it needs is held, else short of
-    /// the first need that isn't met, which is wanted from then on. Without memory nothing changes.
-    pub fn request(&mut self, setup: &Setup, inst: &Inst) -> Result<StepEntry, NoMemory>
-        requires counter { IsCounterSpec setup.now.spec }
-        requires fits { inst.now.op < length setup.now.spec.ops }
+    /// Lets an instance take effect. What it spends is held.
+    pub(crate) fn act(&mut self, setup: &Setup, inst: &Inst) -> Result<(), NoMemory>
+        requires well_formed { IsWellFormed setup.now.spec }
         requires own { IsReplica setup.now self.old.me self.old }
-        requires room { self.old.stamp < 100000 }
-        ensures step { IfOk result (λ entry. LocalSteps setup.now self.old.me None (local_of setup.now.replicas self.old) entry (local_of setup.now.replicas self.new)) }
-        ensures asked { IfOk result (λ entry. entry.ask ≡ asks.Do inst.now) }
-        ensures own { OnOk result (IsReplica setup.now self.old.me self.new) }
-        ensures stamp { OnOk result (self.new.stamp ≡ self.old.stamp + 1) }
-        ensures err { OnErr result (self.new ≡ self.old) }
+        requires fits { InstFits setup.now.spec inst.now }
+        requires held { (cell : CellOf) → Contains (cells setup.now.spec) cell → spends setup.now.spec inst.now (right.Low cell) ≤ held_count setup.now (known_to self.old) self.old.me (own_log self.old) (right.Low cell) }
+        requires room { HasRoom 1 self.old }
+        ensures { OnOk result (HasLogged setup.now (body.Act inst.now) self.old self.new) }
     {
-        let outcome = self.answer(setup, inst)?;
-        self.stamp += 1;
-        Ok(StepEntry {
-            stamp: self.stamp,
-            replica: self.me,
-            ask: Ask::Do(*inst),
-            outcome,
-        })
+        spend(&mut self.lows, &setup.spec, inst);
+        self.log(&setup.spec, Body::Act(*inst))
     }
 
-    /// The value of the counter, if there is one.
-    fn values(&self, alloc: Global, setup: &Setup) -> Result<List<CellValue>, NoMemory>
-        requires counter { IsCounterSpec setup.now.spec }
-        requires small { self.now.lowered ≤ 2 ^ 60 }
-        ensures { IfOk result (λ values. values ≡ values_after setup.now.spec self.now.lowered) }
+    /// Accepts rights to lower a cell that an item of another replica gave.
+    pub(crate) fn accept(
+        &mut self,
+        setup: &Setup,
+        from: u32,
+        index: u32,
+        cell: &Cell,
+        count: u64,
+    ) -> Result<(), NoMemory>
+        requires well_formed { IsWellFormed setup.now.spec }
+        requires own { IsReplica setup.now self.old.me self.old }
+        requires other { from ≢ self.old.me }
+        requires fits { Contains (cells setup.now.spec) cell.now }
+        requires given { (out : ItemOf) × (item_at (known_to self.old) from index ≡ Some out) × (out.body ≡ body.Out self.old.me (right.Low cell.now) (piece.Count count)) }
+        requires room { HasRoom 1 self.old }
+        ensures { OnOk result (HasLogged setup.now (body.Accept from index) self.old self.new) }
     {
-        let mut values = List::new(alloc);
-        if let Some(num) = setup.spec.nums.get(0) {
-            values.push(CellValue {
-                cell: the_cell(),
-                value: num.init - self.lowered as i64,
-            })?;
-        }
-        Ok(values)
+        gain(&mut self.lows, &setup.spec, cell, count);
+        self.log(&setup.spec, Body::Accept { from, index })
     }
 
-    /// What is held, if there is a counter and something is.
-    fn holds(&self, alloc: Global, setup: &Setup) -> Result<List<Hold>, NoMemory>
-        ensures { IfOk result (λ holds. holds ≡ holds_of setup.now.spec self.now.held) }
+    /// Gives rights to lower a cell to another replica. They are held.
+    pub(crate) fn give(&mut self, setup: &Setup, to: u32, cell: &Cell, count: u64) -> Result<(), NoMemory>
+        requires well_formed { IsWellFormed setup.now.spec }
+        requires own { IsReplica setup.now self.old.me self.old }
+        requires fits { Contains (cells setup.now.spec) cell.now }
+        requires held { count ≤ held_count setup.now (known_to self.old) self.old.me (own_log self.old) (right.Low cell.now) }
+        requires room { HasRoom 1 self.old }
+        ensures { OnOk result (HasLogged setup.now (body.Out to (right.Low cell.now) (piece.Count count)) self.old self.new) }
     {
-        let mut holds = List::new(alloc);
-        if !setup.spec.nums.is_empty() && self.held > 0 {
-            let _so_far = holds.as_slice();
-            holds.push(Hold::Count {
-                right: Right::Low(the_cell()),
-                count: self.held,
-            })?;
-        }
-        Ok(holds)
-    }
-
-    /// How it stands at the end, as a trace shows it.
-    pub fn last(&self, alloc: Global, setup: &Setup) -> Result<Final, NoMemory>
-        requires counter { IsCounterSpec setup.now.spec }
-        requires own { IsReplica setup.now self.now.me self.now }
-        requires short { self.now.stamp ≤ 100000 }
-        ensures { IfOk result (λ last. last ≡ final_of setup.now (known_to setup.now.replicas self.now) self.now.me (standing_of setup.now.replicas self.now)) }
-    {
-        Ok(Final {
-            cut: self.cut,
-            truths: List::new(alloc),
-            values: self.values(alloc, setup)?,
-            holds: self.holds(alloc, setup)?,
-        })
+        lose(&mut self.lows, &setup.spec, cell, count);
+        let body = Body::Out {
+            to,
+            right: Right::Low(*cell),
+            piece: Piece::Count(count),
+        };
+        self.log(&setup.spec, body)
     }
 }

@@ -20,7 +20,8 @@ use Rattle.run_model.specs.Wants.{need_of, piece_for}
 use Rattle.run_model.specs.Worlds.{Standing, logged, logged_all, holding, joined}
 use Rattle.run_model.specs.Steps.{Requested, Sends, cut_after, accept_of, accepts_of, received, given, answered, dropped, Takes}
 use Rattle.run_model.proofs.Lists.{each_append, each_weaker}
-use Rattle.run_model.proofs.Own.{AreOwn, own_append, CountsOn, cut_after_own}
+use Rattle.run_model.proofs.Own.{own_append, CountsOn, cut_after_own}
+use Rattle.run_model.specs.Fitting.{AreInRow}
 
 -- what the body accepts lies in the cut
 abbrev pub IsSeen : List ℕ → Body → Type 0
@@ -42,7 +43,7 @@ all_seen_later bodies old new more all = each_weaker (IsSeen old) (IsSeen new) (
 pub record IsStanding (me : ℕ) (log : List LogItem) (cut : List ℕ) : Type 0 where
   pub place : me < length cut
   pub whole : slice_index cut me ≡ length log
-  pub own : AreOwn me 0 log
+  pub own : AreInRow me 0 log
   pub seen : AllByRecursion (λ item. IsSeen cut item.body) log
 
 -- the replica's log is this one with more items, and of other logs it has seen just this cut
@@ -135,7 +136,7 @@ accept_seen cut me origin index (body.Out to r piece) lt = cond_both (to == me) 
 accept_seen cut me origin index (body.Accept from at) lt = tt
 
 -- what is accepted of items in a row is seen where they are
-pub accepts_seen : (cut : List ℕ) (me from at : ℕ) (items : List LogItem) → AreOwn from at items → at + length items ≤ slice_index cut from → AllByRecursion (IsSeen cut) (accepts_of me items)
+pub accepts_seen : (cut : List ℕ) (me from at : ℕ) (items : List LogItem) → AreInRow from at items → at + length items ≤ slice_index cut from → AllByRecursion (IsSeen cut) (accepts_of me items)
 accepts_seen cut me from at [] own le = tt
 accepts_seen cut me from at (x ∷ xs) own le =
     let there : slice_index cut x.origin ≡ slice_index cut from = ap (slice_index cut) own.0 in
@@ -161,7 +162,7 @@ counts_within from old new n h j =
     ]
 
 -- items of another log in a row are seen once they are applied
-pub later_own : (me from : ℕ) (cut : List ℕ) (applied : List LogItem) → me ≢ from → from < length cut → AreOwn from (slice_index cut from) applied → IsLater me cut applied
+pub later_own : (me from : ℕ) (cut : List ℕ) (applied : List LogItem) → me ≢ from → from < length cut → AreInRow from (slice_index cut from) applied → IsLater me cut applied
 later_own me from cut applied ne place own =
     let h = cut_after_own from cut applied (slice_index cut from) own place refl in
     record {

@@ -17,7 +17,7 @@ use Rattle.run_model.specs.Logs.{Logs, log_at}
 use Rattle.run_model.specs.Worlds.{Standing, Sending, World, logs_of, sent_to}
 use Rattle.run_model.specs.Steps.{cut_after, accepts_of, Steps}
 use Rattle.run_model.specs.Runs.{Precedes, InOrder, entries_at}
-use Rattle.run_model.specs.Locals.{Local, learns, LocalSteps, LocalRuns}
+use Rattle.run_model.specs.Locals.{Local, Knows, learns, LocalSteps, LocalRuns}
 use Rattle.run_model.proofs.Lists.{each_append, each_weaker, each_at, each_filter, get_append, get_take}
 use Rattle.run_model.proofs.WorldLogs.{logs_there, set_log_same, set_log_other}
 use Rattle.run_model.proofs.Own.{cut_after_own}
@@ -27,10 +27,6 @@ use Rattle.run_model.proofs.Kept.{IsNext, IsTaken}
 use Rattle.run_model.proofs.Agreed.{Agrees, steps_agree}
 
 -- ---- what a replica knows
-
--- of each log just what its cut counts
-abbrev pub Knows : Logs → List ℕ → Logs → Type 0
-Knows logs cut known = (j : ℕ) → log_at known j ≡ take (slice_index cut j) (log_at logs j)
 
 -- what is learned of the next items of a log
 learns_next : (logs : Logs) (me from : ℕ) (cut : List ℕ) (applied : List LogItem) (known : Logs) → IsNext logs me from cut applied → from < length known → Knows logs cut known
@@ -72,7 +68,7 @@ learns_long asks.Crash applied known = refl
 learns_long asks.Recover applied known = refl
 
 -- what is seen is known as it is
-seen_agrees : (logs : Logs) (cut : List ℕ) (known : Logs) (b : Body) → Knows logs cut known → IsSeen cut b → Agrees known logs b
+pub seen_agrees : (logs : Logs) (cut : List ℕ) (known : Logs) (b : Body) → Knows logs cut known → IsSeen cut b → Agrees known logs b
 seen_agrees logs cut known (body.Act inst) knows seen = tt
 seen_agrees logs cut known (body.Out to r piece) knows seen = tt
 seen_agrees logs cut known (body.Accept from at) knows seen = ap (λ (l : List LogItem). slice_get l at) (knows from) ∙ get_take (slice_index cut from) (log_at logs from) at seen
@@ -85,6 +81,22 @@ known_steps setup logs learned me heard applied old entry new stands later knows
     steps_agree setup learned logs me heard applied old entry new
     (each_weaker (λ (i : LogItem). IsSeen old.cut i.body) (λ (i : LogItem). Agrees learned logs i.body) (λ i seen. seen_agrees logs cut learned i.body knows (seen_later i.body old.cut cut later.above seen)) old.log stands.seen)
     (each_weaker (IsSeen cut) (Agrees learned logs) (λ b seen. seen_agrees logs cut learned b knows seen) (accepts_of me applied) later.accepts)
+    steps
+
+-- to agree goes both ways
+agrees_back : (a b : Logs) (what : Body) → Agrees a b what → Agrees b a what
+agrees_back a b (body.Act inst) h = tt
+agrees_back a b (body.Out to r piece) h = tt
+agrees_back a b (body.Accept from at) h = sym h
+
+-- a step by all logs is one by what is known
+pub steps_known : (setup : Setup) (logs learned : Logs) (me : ℕ) (heard : Option Sending) (applied : List LogItem) (old : Standing) (entry : StepEntry) (new : Standing) → IsStanding me old.log old.cut → IsLater me old.cut applied → Knows logs (cut_after old.cut applied) learned
+    → Steps setup logs me heard applied old entry new → Steps setup learned me heard applied old entry new
+steps_known setup logs learned me heard applied old entry new stands later knows steps =
+    let cut : List ℕ = cut_after old.cut applied in
+    steps_agree setup logs learned me heard applied old entry new
+    (each_weaker (λ (i : LogItem). IsSeen old.cut i.body) (λ (i : LogItem). Agrees logs learned i.body) (λ i seen. agrees_back learned logs i.body (seen_agrees logs cut learned i.body knows (seen_later i.body old.cut cut later.above seen))) old.log stands.seen)
+    (each_weaker (IsSeen cut) (Agrees logs learned) (λ b seen. agrees_back learned logs b (seen_agrees logs cut learned b knows seen)) (accepts_of me applied) later.accepts)
     steps
 
 -- ---- what is known in the next world

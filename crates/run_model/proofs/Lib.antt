@@ -18,3 +18,5 @@ pub mod Places
 pub mod InFlight
 pub mod Balanced
 pub mod Sound
+pub mod Here
+pub mod Projected

@@ -23,7 +23,8 @@ use Rattle.run_model.specs.Worlds.{Standing, Sending, logged, logged_all, holdin
 use Rattle.run_model.specs.Steps.{Requested, Takes, Answers, cut_after, accept_of, accepts_of, received, given, answered, dropped}
 use Rattle.run_model.specs.Balance.{IsEscrow}
 use Rattle.run_model.proofs.Lists.{each_at, get_push, get_drop, get_front}
-use Rattle.run_model.proofs.Own.{AreOwn, cut_after_own}
+use Rattle.run_model.proofs.Own.{cut_after_own}
+use Rattle.run_model.specs.Fitting.{AreInRow}
 use Rattle.run_model.proofs.Growth.{IsSeen, IsStanding, HasGrown, IsLater, logged_grown, grown_first, grown_like, standing_later}
 use Rattle.run_model.proofs.Answers.{answers_are}
 use Rattle.run_model.proofs.Kept.{IsNext, IsTaken}
@@ -169,7 +170,7 @@ logged_all_append me (a ∷ first) bs p = logged_all_append me first bs (logged 
 
 -- after the Accepts of all items that are applied
 accepted_all : (setup : Setup) (logs : Logs) (me from place : ℕ) (P : List LogItem → List ℕ → Type 0) (log : List LogItem) (cut : List ℕ) (p : Standing) (items : List LogItem) → IsKeptBy setup logs me P → me ≢ from
-    → AreOwn from place items → ((k : ℕ) (x : LogItem) → slice_get items k ≡ Some x → item_at logs from (place + k) ≡ Some x) → place + length items ≤ slice_index cut from
+    → AreInRow from place items → ((k : ℕ) (x : LogItem) → slice_get items k ≡ Some x → item_at logs from (place + k) ≡ Some x) → place + length items ≤ slice_index cut from
     → Accepted P me from place log cut p → Goes P me log cut (logged_all me (accepts_of me items) p)
 accepted_all setup logs me from place P log cut p [] keeps ne own at le h = h.goes
 accepted_all setup logs me from place P log cut p (x ∷ xs) keeps ne own at le h =

@@ -1,16 +1,16 @@
 -- The last state of a replica, as a trace shows it.
-use Rattle.std.specs.Prelude.{ℕ, List, [], ◌∷◌, ◌++◌, map, ◌+◌, is_some, ◌==◌, if◌then◌else◌, Option, Some}
+use Rattle.std.specs.Prelude.{ℕ, List, [], ◌∷◌, ◌++◌, map, filter, ◌+◌, is_some, ◌==◌, if◌then◌else◌, Option, Some}
 use Rattle.std.specs.List.{flat_map}
 use Rattle.spec_model.specs.declared.plan.Setup.{Setup}
 use Rattle.spec_model.specs.declared.right.Right.{Right}
 use Rattle.spec_model.specs.declared.right.Right.TheVariants as right
-use Rattle.spec_model.specs.Universe.{cells, lower_bound, upper_bound}
+use Rattle.spec_model.specs.Universe.{atoms, cells, lower_bound, upper_bound}
 use Rattle.run_model.specs.declared.history.CellValue.{CellValue}
 use Rattle.run_model.specs.declared.history.Hold.{Hold}
 use Rattle.run_model.specs.declared.history.Hold.TheVariants as hold
 use Rattle.run_model.specs.declared.history.Final.{Final}
 use Rattle.run_model.specs.Logs.{Logs, items_in}
-use Rattle.run_model.specs.States.{value_of}
+use Rattle.run_model.specs.States.{truth_of, value_of}
 use Rattle.run_model.specs.Rights.{held_count}
 use Rattle.run_model.specs.Worlds.{Standing}
 
@@ -27,11 +27,11 @@ abbrev pub high_holds : Setup → Logs → ℕ → Standing → List Hold
 high_holds setup logs me p =
     flat_map (λ cell. if is_some (upper_bound setup.spec cell) then hold_of (right.High cell) (held_count setup logs me p.log (right.High cell)) else []) (cells setup.spec)
 
--- the cut, the state of the acts in it, and what is held; without predicates no atom is true
+-- the cut, the state of the acts in it, and what is held
 abbrev pub final_of : Setup → Logs → ℕ → Standing → Final
 final_of setup logs me p = record {
   cut = p.cut;
-  truths = [];
+  truths = filter (λ atom. truth_of setup.spec (items_in p.cut logs) atom.pred atom.args) (atoms setup.spec);
   values = map (λ cell. record { cell = cell; value = value_of setup.spec (items_in p.cut logs) cell }) (cells setup.spec);
   holds = low_holds setup logs me p ++ high_holds setup logs me p;
 }

@@ -9,3 +9,4 @@ pub mod Finals
 pub mod Trace
 pub mod Balance
 pub mod Locals
+pub mod Fitting

@@ -38,11 +38,17 @@ need_of want = record { right = want.right; amount = amount_of want.ask }
 abbrev pub is_on : Right → Want → Bool
 is_on r want = same_right want.right r
 
--- a want on a right that is wanted already takes the place of the old one; else it goes last, and of more than eight the first is dropped
+-- those on the same right are replaced
+abbrev pub replaced : List Want → Want → List Want
+replaced wants want = map (λ w. if is_on want.right w then want else w) wants
+
+-- it goes last, and of more than eight the first is dropped
+abbrev pub behind : List Want → Want → List Want
+behind wants want = drop (length wants - 7) (wants ++ want ∷ [])
+
+-- a want on a right that is wanted already takes the place of the old one; else it goes last
 abbrev pub noted : List Want → Want → List Want
-noted wants want =
-    if list_any (is_on want.right) wants then map (λ w. if is_on want.right w then want else w) wants
-    else drop (length wants - 7) (wants ++ want ∷ [])
+noted wants want = if list_any (is_on want.right) wants then replaced wants want else behind wants want
 
 -- what is still asked for: a count less what is held
 abbrev pub ask_less : Held → WantAsk → WantAsk

@@ -1,9 +1,8 @@
 -- Every document that is read is well formed.
 use Rattle.std.proofs.Common.{◌≡◌, ℕ, ◌+◌, ◌<◌, ◌≤◌, Bool, true, false, cond, not, ◌&&◌, eqb, List, [], ◌∷◌, length, map, refl, sym, ap, subst, ◌∙◌, arith, length-append}
 use Rattle.std.specs.Prelude.{Result, Ok, Err, Some, nat_le, nat_lt}
-use Rattle.std.specs.List.{AllByRecursion, list_all}
+use Rattle.std.specs.List.{AllByRecursion, AllZip, list_all}
 use Rattle.std.proofs.lemmas.Bool.{leb-true, ltb-true, eqb-true, eqb-false, ne_eqb}
-use Rattle.spec_model.specs.declared.spec.Sort.{Sort}
 use Rattle.spec_model.specs.declared.spec.Spec.{Spec}
 use Rattle.spec_model.specs.declared.clause.Var.{Var}
 use Rattle.spec_model.specs.declared.operation.Op.{Op}
@@ -18,6 +17,7 @@ use Rattle.scenario_lines.specs.declared.argument.NamedArg.{NamedArg}
 use Rattle.scenario_lines.specs.declared.argument.NamedArg.TheVariants as args
 use Rattle.scenario_lines.specs.declared.line.RunLine.{RunLine}
 use Rattle.scenario_lines.specs.declared.line.RunLine.TheVariants as lines
+use Rattle.spec_model.specs.Fits.{ArgFits, InstFits}
 use Rattle.spec_language.specs.AtStart.{size_at}
 use Rattle.spec_language.proofs.Formed.{Formed as SpecFormed, step_formed as spec_step_formed, fresh_formed as fresh_spec_formed}
 use Rattle.spec_language.proofs.Declared.{known_place}
@@ -34,31 +34,31 @@ use Rattle.scenario_text.specs.WellFormed as formed
 use Rattle.scenario_text.proofs.Limits.{Keeps, line_keeps}
 use Rattle.scenario_text.proofs.Taken as takens
 
-arg_fits : (sorts : List Sort) (p : Var) (a : NamedArg) → requests.arg_fits p a ≡ true → requests.is_ordered a ≡ true → (requests.span_of a).hi < size_at sorts p.sort → formed.ArgFits sorts p (requests.span_of a)
+arg_fits : (spec : Spec) (p : Var) (a : NamedArg) → requests.arg_fits p a ≡ true → requests.is_ordered a ≡ true → (requests.span_of a).hi < size_at spec.sorts p.sort → ArgFits spec p (requests.span_of a)
 unfolding requests.is_ordered
-arg_fits sorts p (args.One n) fits ordered within = record { ordered = leb-true n n (and_true (nat_le n n) (nat_lt n 1024) ordered).0; within = within; plain = λ e. refl }
-arg_fits sorts p (args.Span lo hi) fits ordered within = record { ordered = leb-true lo hi (and_true (nat_le lo hi) (nat_lt hi 1024) ordered).0; within = within; plain = λ e. absurd (differ p.interval fits e) }
+arg_fits spec p (args.One n) fits ordered within = record { ordered = leb-true n n (and_true (nat_le n n) (nat_lt n 1024) ordered).0; fits = within; plain = λ e. refl }
+arg_fits spec p (args.Span lo hi) fits ordered within = record { ordered = leb-true lo hi (and_true (nat_le lo hi) (nat_lt hi 1024) ordered).0; fits = within; plain = λ e. absurd (differ p.interval fits e) }
   where
     differ : (t : Bool) → t ≡ true → t ≡ false → ⊥
     differ true y n = absurd cc
     differ false y n = absurd cc
 
-args_fit : (sorts : List Sort) (ps : List Var) (xs : List NamedArg) → requests.args_fit ps xs ≡ true → list_all requests.is_ordered xs ≡ true → requests.args_within sorts ps xs ≡ true → formed.ArgsFit sorts ps (map requests.span_of xs)
-args_fit sorts [] [] fit ordered within = tt
-args_fit sorts [] (x ∷ xs) fit ordered within = absurd cc
-args_fit sorts (p ∷ ps) [] fit ordered within = absurd cc
-args_fit sorts (p ∷ ps) (x ∷ xs) fit ordered within =
+args_fit : (spec : Spec) (ps : List Var) (xs : List NamedArg) → requests.args_fit ps xs ≡ true → list_all requests.is_ordered xs ≡ true → requests.args_within spec.sorts ps xs ≡ true → AllZip (ArgFits spec) ps (map requests.span_of xs)
+args_fit spec [] [] fit ordered within = tt
+args_fit spec [] (x ∷ xs) fit ordered within = absurd cc
+args_fit spec (p ∷ ps) [] fit ordered within = absurd cc
+args_fit spec (p ∷ ps) (x ∷ xs) fit ordered within =
     let f = and_true (requests.arg_fits p x) (requests.args_fit ps xs) fit in
     let o = and_true (requests.is_ordered x) (list_all requests.is_ordered xs) ordered in
-    let w = and_true (nat_lt (requests.span_of x).hi (size_at sorts p.sort)) (requests.args_within sorts ps xs) within in
-    (arg_fits sorts p x f.0 o.0 (ltb-true (requests.span_of x).hi (size_at sorts p.sort) w.0), args_fit sorts ps xs f.1 o.1 w.1)
+    let w = and_true (nat_lt (requests.span_of x).hi (size_at spec.sorts p.sort)) (requests.args_within spec.sorts ps xs) within in
+    (arg_fits spec p x f.0 o.0 (ltb-true (requests.span_of x).hi (size_at spec.sorts p.sort) w.0), args_fit spec ps xs f.1 o.1 w.1)
 
-inst_fits : (spec : Spec) (op : List ℕ) (xs : List NamedArg) → requests.is_op spec.ops op ≡ true → requests.request_fits spec.ops op xs ≡ true → requests.request_within spec.sorts spec.ops op xs ≡ true → formed.InstFits spec (requests.inst_of spec.ops op xs)
+inst_fits : (spec : Spec) (op : List ℕ) (xs : List NamedArg) → requests.is_op spec.ops op ≡ true → requests.request_fits spec.ops op xs ≡ true → requests.request_within spec.sorts spec.ops op xs ≡ true → InstFits spec (requests.inst_of spec.ops op xs)
 unfolding requests.is_op requests.op_place requests.request_fits requests.request_within requests.inst_of
 inst_fits spec op xs known fits within =
     let f = and_true (nat_le (length xs) 4) _ fits in
     let w = and_true (list_all requests.is_ordered xs) _ within in
-    record { known = known_place (λ (x : Op). x.name) spec.ops op known; args = args_fit spec.sorts _ xs f.1 w.0 w.1 }
+    record { known = known_place (λ (x : Op). x.name) spec.ops op known; args_fit = args_fit spec _ xs f.1 w.0 w.1 }
 
 -- before the line `replicas` nothing of a run is there
 pub record Early (d : Draft) : Type 0 where

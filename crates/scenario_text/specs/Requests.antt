@@ -1,7 +1,6 @@
 -- The requests of a run: an operation with its arguments.
-use Rattle.std.specs.Prelude.{ℕ, List, [], ◌∷◌, length, Bool, true, false, ◌&&◌, not, nat_le, nat_lt, map, slice_get}
+use Rattle.std.specs.Prelude.{ℕ, List, [], ◌∷◌, length, Bool, true, false, ◌&&◌, not, nat_le, nat_lt, map, get_or}
 use Rattle.std.specs.List.{list_all}
-use Rattle.std.specs.Option.{option_map_or}
 use Rattle.ind_base.specs.declared.span.Span.{Span}
 use Rattle.spec_model.specs.declared.spec.Sort.{Sort}
 use Rattle.spec_model.specs.declared.clause.Var.{Var}
@@ -9,6 +8,7 @@ use Rattle.spec_model.specs.declared.operation.Op.{Op}
 use Rattle.spec_model.specs.declared.instance.Inst.{Inst}
 use Rattle.scenario_lines.specs.declared.argument.NamedArg.{NamedArg}
 use Rattle.scenario_lines.specs.declared.argument.NamedArg.TheVariants as args
+use Rattle.spec_model.specs.Truths.{no_op}
 use Rattle.spec_language.specs.Names.{is_known, place_in}
 use Rattle.spec_language.specs.AtStart.{size_at}
 
@@ -22,7 +22,7 @@ op_place ops w = place_in (λ x. x.name) ops w
 
 -- the parameters of an operation
 abbrev pub params_at : List Op → ℕ → List Var
-params_at ops i = option_map_or (λ op. op.params) (slice_get ops i) []
+params_at ops i = (get_or ops i no_op).params
 
 -- a span for an interval parameter, a number for a plain one
 abbrev pub arg_fits : Var → NamedArg → Bool

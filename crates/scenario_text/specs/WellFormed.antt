@@ -1,40 +1,16 @@
 -- What holds of every document that is read.
-use Rattle.std.specs.Prelude.{◌≡◌, ℕ, ◌+◌, ◌<◌, ◌≤◌, false, List, [], ◌∷◌, length, Option, Some}
+use Rattle.std.specs.Prelude.{◌≡◌, ℕ, ◌+◌, ◌<◌, ◌≤◌, List, length, Option, Some}
 use Rattle.std.specs.List.{AllByRecursion}
-use Rattle.ind_base.specs.declared.span.Span.{Span}
-use Rattle.spec_model.specs.declared.spec.Sort.{Sort}
 use Rattle.spec_model.specs.declared.spec.Spec.{Spec}
-use Rattle.spec_model.specs.declared.clause.Var.{Var}
-use Rattle.spec_model.specs.declared.instance.Inst.{Inst}
 use Rattle.run_model.specs.declared.step.Ask.{Ask}
 use Rattle.run_model.specs.declared.step.Ask.TheVariants as asks
 use Rattle.run_model.specs.declared.step.Order.{Order}
-use Rattle.spec_language.specs.AtStart.{size_at}
-use Rattle.spec_language.specs.WellFormed.{IsWellFormed}
-use Rattle.scenario_text.specs.Requests.{params_at}
+use Rattle.spec_model.specs.Fits.{InstFits, IsWellFormed}
 use Rattle.scenario_text.specs.Draft.{courier_turns}
 use Rattle.scenario_text.specs.declared.document.ClientAsk.{ClientAsk}
 use Rattle.scenario_text.specs.declared.document.Work.{Work}
 use Rattle.scenario_text.specs.declared.document.Work.TheVariants as works
 use Rattle.scenario_text.specs.declared.document.Document.{Document}
-
--- a span of elements of the parameter's sort; one element, where the parameter is plain
-pub record ArgFits (sorts : List Sort) (p : Var) (s : Span) : Type 0 where
-  pub ordered : s.lo ≤ s.hi
-  pub within : s.hi < size_at sorts p.sort
-  pub plain : p.interval ≡ false → s.lo ≡ s.hi
-
--- as many arguments as parameters, each of its parameter
-abbrev pub ArgsFit : List Sort → List Var → List Span → Type 0
-ArgsFit sorts [] [] = Unit {0}
-ArgsFit sorts [] (s ∷ ss) = ⊥
-ArgsFit sorts (p ∷ ps) [] = ⊥
-ArgsFit sorts (p ∷ ps) (s ∷ ss) = ArgFits sorts p s × ArgsFit sorts ps ss
-
--- a declared operation at arguments that fit
-pub record InstFits (spec : Spec) (inst : Inst) : Type 0 where
-  pub known : inst.op < length spec.ops
-  pub args : ArgsFit spec.sorts (params_at spec.ops inst.op) inst.args
 
 -- another replica, and the number of a message
 pub record PeerFits (replicas replica peer : ℕ) (number : Option ℕ) : Type 0 where

@@ -1,14 +1,18 @@
 -- Instances one after the other, and how many there are.
-use Rattle.std.proofs.Common.{◌≡◌, ◌⊎◌, inl, inr, ℕ, zero, suc, ◌+◌, ◌*◌, ◌^◌, ◌<◌, ◌≤◌, Bool, true, false, ◌&&◌, eqb, List, [], ◌∷◌, ◌++◌, map, length, get_or, take, drop, refl, sym, ap, ◌∙◌, arith, add-one, append_assoc, mul_assoc}
-use Rattle.std.specs.List.{list_all, flat_map}
-use Rattle.std.proofs.lemmas.List.Folds.{list_all-append}
+use Rattle.std.proofs.Common.{◌≡◌, ◌⊎◌, inl, inr, ℕ, zero, suc, ◌+◌, ◌*◌, ◌^◌, ◌<◌, ◌≤◌, Bool, true, false, ◌&&◌, ◌||◌, eqb, List, [], ◌∷◌, ◌++◌, map, length, get_or, take, drop, refl, sym, ap, ◌∙◌, arith, add-one, append_assoc, mul_assoc}
+use Rattle.std.specs.List.{list_all, list_any, flat_map}
+use Rattle.std.proofs.lemmas.List.Folds.{list_all-append, list_any-append}
 use Rattle.std.specs.List.{AllByRecursion}
 use Rattle.std.proofs.lemmas.List.{append-nil, drop_more}
 use Rattle.std.proofs.lemmas.Nat.{mul-le}
 use Rattle.std.proofs.lemmas.Bool.{eqb-true, eqb-false}
 use Rattle.spec_model.specs.declared.spec.Sort.{Sort}
-use Rattle.spec_language.specs.AtStart.{size_at, product}
-use Rattle.spec_model.specs.Universe.{below, tuples}
+use Rattle.spec_model.specs.declared.clause.Clause.{Clause}
+use Rattle.spec_model.specs.declared.clause.Literal.{Literal}
+use Rattle.spec_model.specs.Truths.{Truths, Within, signed, signed_true, literal_true, instance_true}
+use Rattle.spec_language.specs.AtStart.{size_at}
+use Rattle.line_text.proofs.Guards.{and_true}
+use Rattle.spec_model.specs.Universe.{below, tuples, tuple_count}
 
 -- each tuple behind this element
 abbrev pub behind : List (List ℕ) → ℕ → List (List ℕ)
@@ -50,6 +54,43 @@ one_fails : (p : List ℕ → Bool) (g : ℕ → List (List ℕ)) (x n : ℕ) �
 one_fails p g x zero lt bad = absurd (omega arith)
 one_fails p g x (suc n) lt bad = elim (near x n (eqb x n) refl lt) [ inl same ↦ all_more p g n ∙ rw (← same, bad) (and_false (list_all p (flat_map g (below x)))) | inr less ↦ all_more p g n ∙ rw (one_fails p g x n less bad) refl ]
 
+-- one of the elements holds, where all do
+one_holds : (p : List ℕ → Bool) (g : ℕ → List (List ℕ)) (x n : ℕ) → x < n → list_all p (flat_map g (below n)) ≡ true → list_all p (g x) ≡ true
+one_holds p g x zero lt all = absurd (omega arith)
+one_holds p g x (suc n) lt all =
+    let h = and_true (list_all p (flat_map g (below n))) (list_all p (g n)) (sym (all_more p g n) ∙ all) in
+    elim (near x n (eqb x n) refl lt) [ inl same ↦ rw same h.1 | inr less ↦ one_holds p g x n less h.0 ]
+
+-- what holds of all tuples holds of elements of the sorts
+pub within_holds : (size : ℕ → ℕ) (p : List ℕ → Bool) (sorts xs : List ℕ) → Within size sorts xs → list_all p (tuples (map size sorts)) ≡ true → p xs ≡ true
+within_holds size p [] [] w all = (and_true (p []) true all).0
+within_holds size p [] (x ∷ xs) w all = absurd w
+within_holds size p (s ∷ sorts) [] w all = absurd w
+within_holds size p (s ∷ sorts) (x ∷ xs) w all =
+    let ts = tuples (map size sorts) in
+    let here : list_all p (behind ts x) ≡ true = one_holds p (behind ts) x (size s) w.0 all in
+    within_holds size (λ (ys : List ℕ). p (x ∷ ys)) sorts xs w.1 (sym (all_moved p [] x ts) ∙ here)
+
+any_signed : (s : Truths) (xs : List ℕ) (sign : Bool) (ls : List Literal) → list_any (signed_true s xs) (map (signed sign) ls) ≡ list_any (literal_true s xs sign) ls
+any_signed s xs sign [] = refl
+any_signed s xs sign (l ∷ ls) = ap (λ (b : Bool). literal_true s xs sign l || b) (any_signed s xs sign ls)
+
+-- the premise and the conclusion of an instance, one after the other
+sides : (s : Truths) (xs : List ℕ) (c : Clause) → instance_true s xs c ≡ (list_any (literal_true s xs false) c.premise || list_any (literal_true s xs true) c.conclusion)
+sides s xs c =
+    list_any-append (signed_true s xs) (map (signed false) c.premise) (map (signed true) c.conclusion)
+    ∙ ap (λ (b : Bool). b || list_any (signed_true s xs) (map (signed true) c.conclusion)) (any_signed s xs false c.premise)
+    ∙ ap (λ (b : Bool). list_any (literal_true s xs false) c.premise || b) (any_signed s xs true c.conclusion)
+
+-- a literal of the premise is false
+pub premise_fails : (s : Truths) (xs : List ℕ) (c : Clause) (premise : List Literal) → premise ≡ c.premise → list_any (literal_true s xs false) premise ≡ true → true ≡ instance_true s xs c
+premise_fails s xs c premise is fails = sym (sides s xs c ∙ rw (← is, fails) refl)
+
+-- else the conclusion decides
+pub conclusion_decides : (s : Truths) (xs : List ℕ) (c : Clause) (premise conclusion : List Literal) → premise ≡ c.premise → conclusion ≡ c.conclusion → list_any (literal_true s xs false) premise ≡ false
+    → list_any (literal_true s xs true) conclusion ≡ instance_true s xs c
+conclusion_decides s xs c premise conclusion is are holds = sym (sides s xs c ∙ rw (← is, ← are, holds) refl)
+
 pub some_fail : (p : List ℕ → Bool) (front longer : List ℕ) (x n : ℕ) (ts : List (List ℕ)) → longer ≡ front ++ x ∷ [] → x < n
     → false ≡ list_all (λ xs. p (longer ++ xs)) ts → false ≡ list_all (λ xs. p (front ++ xs)) (flat_map (behind ts) (below n))
 some_fail p front longer x n ts is lt bad =
@@ -80,10 +121,10 @@ size_small (s ∷ sorts) (suc place) all = size_small sorts place all.1
 
 -- one more place was multiplied
 pub counted : (sorts : List Sort) (places : List ℕ) (i count : ℕ) (total : ℕ) → i < length places
-    → count * product (map (size_at sorts) (drop i places)) ≡ total → count * size_at sorts (get_or places i 0) * product (map (size_at sorts) (drop (i + 1) places)) ≡ total
+    → count * tuple_count (map (size_at sorts) (drop i places)) ≡ total → count * size_at sorts (get_or places i 0) * tuple_count (map (size_at sorts) (drop (i + 1) places)) ≡ total
 counted sorts places i count total lt so_far =
     let split = drop_more places i 0 lt in
-    mul_assoc count (size_at sorts (get_or places i 0)) (product (map (size_at sorts) (drop (i + 1) places))) ∙ (rw split at so_far)
+    mul_assoc count (size_at sorts (get_or places i 0)) (tuple_count (map (size_at sorts) (drop (i + 1) places))) ∙ (rw split at so_far)
 
 -- the tuples over sizes, by the first one
 pub cut_size : (sizes front back : List ℕ) → ((length sizes ≡ 0) → ⊥) → front ≡ take 1 sizes → back ≡ drop 1 sizes → tuples sizes ≡ flat_map (behind (tuples back)) (below (get_or front 0 0))

@@ -157,7 +157,7 @@ clause_added d c count line o f back = rw (o, f, ← back) (simp (map_one, appen
 
 clause_said : (d : SpecDraft) (vars : List NamedVar) (premise conclusion : List NamedLiteral) (mask : Bool) → list_all (drafts.is_var_known d.spec.sorts) vars ≡ true
     → (list_all (drafts.is_literal_known d.spec.preds (map (drafts.var_of d.spec.sorts) vars)) premise && list_all (drafts.is_literal_known d.spec.preds (map (drafts.var_of d.spec.sorts) vars)) conclusion) ≡ true
-    → sayings.say_clause d.spec.sorts d.spec.preds (record { vars = map (drafts.var_of d.spec.sorts) vars; premise = map (drafts.literal_of d.spec.preds (map (drafts.var_of d.spec.sorts) vars)) premise; conclusion = map (drafts.literal_of d.spec.preds (map (drafts.var_of d.spec.sorts) vars)) conclusion; mask = mask }) ≡ lines.Clause vars premise conclusion mask
+    → sayings.say_clause d.spec.sorts d.spec.preds (drafts.clause_of d.spec.preds (map (drafts.var_of d.spec.sorts) vars) premise conclusion mask) ≡ lines.Clause vars premise conclusion mask
 unfolding sayings.say_clause
 clause_said d vars premise conclusion mask declared known =
     let vs = map (drafts.var_of d.spec.sorts) vars in

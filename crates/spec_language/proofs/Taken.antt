@@ -15,7 +15,7 @@ use Rattle.line_text.specs.declared.cause.Cause.{Cause}
 use Rattle.line_text.proofs.Guards.{guard_ok, bind_ok, ok_same}
 use Rattle.spec_language.specs.declared.draft.SpecDraft.{SpecDraft}
 use Rattle.spec_language.specs.Names.{is_taken, are_free}
-use Rattle.spec_language.specs.AtStart.{tuple_count, size_at, clause_holds, at_least, at_most}
+use Rattle.spec_language.specs.AtStart.{tuple_count, clause_starts, at_least, at_most}
 use Rattle.spec_language.specs.Draft as drafts
 
 pub record SortTaken (d e : SpecDraft) (name : List ℕ) (size : ℕ) : Type 0 where
@@ -79,8 +79,8 @@ pub record LiteralsTaken (d e : SpecDraft) (vars : List Var) (premise conclusion
   pub fit : (list_all (drafts.literal_fits d.spec.preds vars) premise && list_all (drafts.literal_fits d.spec.preds vars) conclusion) ≡ true
   pub room : (nat_le (length vars) 4 && nat_le (length premise + length conclusion) 8 && nat_lt (length d.spec.clauses) 64) ≡ true
   pub counted : nat_le (d.instances + tuple_count d.spec.sorts (drafts.var_sorts vars)) 1000000 ≡ true
-  pub holds : clause_holds d.spec.preds (map (drafts.literal_of d.spec.preds vars) premise) (map (drafts.literal_of d.spec.preds vars) conclusion) (map (size_at d.spec.sorts) (drafts.var_sorts vars)) ≡ true
-  pub whole : drafts.add_clause d (record { vars = vars; premise = map (drafts.literal_of d.spec.preds vars) premise; conclusion = map (drafts.literal_of d.spec.preds vars) conclusion; mask = mask }) (tuple_count d.spec.sorts (drafts.var_sorts vars)) ≡ e
+  pub holds : clause_starts d.spec.sorts d.spec.preds (drafts.clause_of d.spec.preds vars premise conclusion mask) ≡ true
+  pub whole : drafts.add_clause d (drafts.clause_of d.spec.preds vars premise conclusion mask) (tuple_count d.spec.sorts (drafts.var_sorts vars)) ≡ e
 
 pub literals_taken : (d e : SpecDraft) (vars : List Var) (premise conclusion : List NamedLiteral) (mask : Bool) → drafts.take_literals d vars premise conclusion mask ≡ Ok e → LiteralsTaken d e vars premise conclusion mask
 unfolding drafts.take_literals
@@ -89,7 +89,7 @@ literals_taken d e vars premise conclusion mask is =
     let b = guard_ok (list_all (drafts.literal_fits d.spec.preds vars) premise && list_all (drafts.literal_fits d.spec.preds vars) conclusion) _ _ e a.1 in
     let c = guard_ok (nat_le (length vars) 4 && nat_le (length premise + length conclusion) 8 && nat_lt (length d.spec.clauses) 64) _ _ e b.1 in
     let f = guard_ok (nat_le (d.instances + tuple_count d.spec.sorts (drafts.var_sorts vars)) 1000000) _ _ e c.1 in
-    let g = guard_ok (clause_holds d.spec.preds (map (drafts.literal_of d.spec.preds vars) premise) (map (drafts.literal_of d.spec.preds vars) conclusion) (map (size_at d.spec.sorts) (drafts.var_sorts vars))) _ _ e f.1 in
+    let g = guard_ok (clause_starts d.spec.sorts d.spec.preds (drafts.clause_of d.spec.preds vars premise conclusion mask)) _ _ e f.1 in
     record { known = a.0; fit = b.0; room = c.0; counted = f.0; holds = g.0; whole = ok_same _ e g.1 }
 
 pub record ClauseTaken (d e : SpecDraft) (vars : List NamedVar) (premise conclusion : List NamedLiteral) (mask : Bool) : Type 0 where

@@ -1,8 +1,7 @@
 -- What a specification is so far, and what each line adds to it or why it is refused.
-use Rattle.std.specs.Prelude.{ℕ, ℤ, pos, ◌+◌, List, [], ◌∷◌, ◌++◌, length, Option, Some, None, Result, Ok, Err, if◌then◌else◌, ◌==◌, ◌&&◌, Bool, true, false, nat_le, nat_lt, not, count_by, map, slice_get}
+use Rattle.std.specs.Prelude.{ℕ, ℤ, pos, ◌+◌, List, [], ◌∷◌, ◌++◌, length, Option, Some, None, Result, Ok, Err, if◌then◌else◌, ◌==◌, ◌&&◌, Bool, true, false, nat_le, nat_lt, not, count_by, map, get_or}
 use Rattle.std.specs.Str.{bytes_eq}
 use Rattle.std.specs.List.{list_all}
-use Rattle.std.specs.Option.{option_map_or}
 use Rattle.spec_model.specs.declared.spec.Sort.{Sort}
 use Rattle.spec_model.specs.declared.spec.Pred.{Pred}
 use Rattle.spec_model.specs.declared.spec.Num.{Num}
@@ -30,7 +29,8 @@ use Rattle.line_text.specs.declared.cause.Cause.TheVariants.{OutOfPlace, NameTak
 use Rattle.line_text.specs.Causes.{◌>>=◌, guard}
 use Rattle.spec_language.specs.declared.draft.SpecDraft.{SpecDraft}
 use Rattle.spec_language.specs.Names.{is_known, place_in, is_taken, are_free}
-use Rattle.spec_language.specs.AtStart.{tuple_count, size_at, clause_holds, at_least, at_most}
+use Rattle.spec_model.specs.Truths.{no_pred, no_num}
+use Rattle.spec_language.specs.AtStart.{tuple_count, clause_starts, at_least, at_most}
 
 -- no line was taken yet
 abbrev pub fresh : SpecDraft
@@ -154,7 +154,7 @@ pred_place preds w = place_in (λ x. x.name) preds w
 
 -- the sorts of its arguments
 abbrev pub sorts_of_pred : List Pred → ℕ → List ℕ
-sorts_of_pred preds p = option_map_or (λ pred. pred.sorts) (slice_get preds p) []
+sorts_of_pred preds p = (get_or preds p no_pred).sorts
 
 -- the names of a literal are a predicate's and of variables
 unfoldable pub is_literal_known : List Pred → List Var → NamedLiteral → Bool
@@ -187,6 +187,10 @@ unfoldable pub literal_of : List Pred → List Var → NamedLiteral → Literal
 literal_of preds vars (named_literals.Atom pred names) = literals.Atom (pred_place preds pred) (map (var_place vars) names)
 literal_of preds vars (named_literals.Equal left right) = literals.Equal (var_place vars left) (var_place vars right)
 
+-- a clause with places for names
+abbrev pub clause_of : List Pred → List Var → List NamedLiteral → List NamedLiteral → Bool → Clause
+clause_of preds vars premise conclusion mask = record { vars = vars; premise = map (literal_of preds vars) premise; conclusion = map (literal_of preds vars) conclusion; mask = mask }
+
 abbrev pub add_clause : SpecDraft → Clause → ℕ → SpecDraft
 add_clause d clause count = record {
   rank = 4;
@@ -206,8 +210,8 @@ take_literals d vars premise conclusion mask = do
   w ← guard (list_all (literal_fits d.spec.preds vars) premise && list_all (literal_fits d.spec.preds vars) conclusion) WrongArguments
   e ← guard (nat_le (length vars) 4 && nat_le (length premise + length conclusion) 8 && nat_lt (length d.spec.clauses) 64) TooMany
   f ← guard (nat_le (d.instances + tuple_count d.spec.sorts (var_sorts vars)) 1000000) TooMany
-  g ← guard (clause_holds d.spec.preds (map (literal_of d.spec.preds vars) premise) (map (literal_of d.spec.preds vars) conclusion) (map (size_at d.spec.sorts) (var_sorts vars))) FalseAtStart
-  Ok (add_clause d (record { vars = vars; premise = map (literal_of d.spec.preds vars) premise; conclusion = map (literal_of d.spec.preds vars) conclusion; mask = mask }) (tuple_count d.spec.sorts (var_sorts vars)))
+  g ← guard (clause_starts d.spec.sorts d.spec.preds (clause_of d.spec.preds vars premise conclusion mask)) FalseAtStart
+  Ok (add_clause d (clause_of d.spec.preds vars premise conclusion mask) (tuple_count d.spec.sorts (var_sorts vars)))
 
 -- the variables with places for their sorts, or the first cause
 unfoldable pub take_vars : SpecDraft → List NamedVar → Result (List Var) Cause
@@ -318,7 +322,7 @@ num_place nums w = place_in (λ x. x.name) nums w
 
 -- the sorts of its arguments
 abbrev pub sorts_of_num : List Num → ℕ → List ℕ
-sorts_of_num nums n = option_map_or (λ num. num.sorts) (slice_get nums n) []
+sorts_of_num nums n = (get_or nums n no_num).sorts
 
 abbrev pub change_line : Bool → ℕ → List ℕ → ℕ → Line
 change_line true num params amount = effects.Add num params amount

@@ -3,6 +3,5 @@ pub mod AtStart
 pub mod Draft
 pub mod Bounds
 pub mod Saying
-pub mod WellFormed
 pub mod Again
 pub mod Reading

@@ -1,11 +1,12 @@
 //! What holds at the first values.
 
-ghost use Rattle.std.specs.Prelude.{◌≡◌, ◌≤◌, ◌+◌, ◌*◌, ◌++◌, length, map};
+ghost use Rattle.std.specs.Prelude.{◌≡◌, ◌≤◌, ◌+◌, ◌*◌, ◌++◌, length, map, get_or};
 ghost use Rattle.std.specs.List.{list_all, list_any, AllByRecursion};
+ghost use Rattle.spec_model.specs.Truths.{literal_true, no_pred};
 ghost use Rattle.spec_model.specs.Universe.{tuples};
 ghost use Rattle.spec_language.specs.AtStart as definitions;
 
-use spec_model::{Args, Literal, Pred, Sort};
+use spec_model::{Args, Clause, Literal, Pred, Sort, Var};
 
 /// How many elements the sort at this place has; 0, where there is no such sort.
 pub fn size_at(sorts: &[Sort], place: u32) -> u32
@@ -40,7 +41,7 @@ pub(crate) fn tuple_count(sorts: &[Sort], places: &[u32]) -> u64
 }
 
 fn first_truth(preds: &[Pred], place: u32) -> bool
-    ensures { result ≡ definitions.first_truth preds.now place }
+    ensures { result ≡ (get_or preds.now place no_pred).first }
 {
     match preds.get(place as usize) {
         Some(pred) => pred.first,
@@ -49,7 +50,7 @@ fn first_truth(preds: &[Pred], place: u32) -> bool
 }
 
 fn element(args: &[u32], place: u32) -> u32
-    ensures { result ≡ definitions.element args.now place }
+    ensures { result ≡ get_or args.now place 0 }
 {
     match args.get(place as usize) {
         Some(x) => *x,
@@ -57,73 +58,71 @@ fn element(args: &[u32], place: u32) -> u32
     }
 }
 
-#[tactic(auto, unfolding(crate::specs::AtStart::literal_holds))]
-fn literal_holds(preds: &[Pred], args: &[u32], literal: Literal) -> bool
-    ensures { result ≡ definitions.literal_holds preds.now args.now literal }
+/// Whether a literal has this truth at first.
+fn literal_is(preds: &[Pred], args: &[u32], sign: bool, literal: Literal) -> bool
+    ensures { result ≡ literal_true (definitions.first_truths preds.now) args.now sign literal }
 {
     match literal {
-        Literal::Atom { pred, .. } => first_truth(preds, pred),
-        Literal::Equal { left, right } => element(args, left) == element(args, right),
+        Literal::Atom { pred, .. } => first_truth(preds, pred) == sign,
+        Literal::Equal { left, right } => (element(args, left) == element(args, right)) == sign,
     }
 }
 
-fn all_hold(preds: &[Pred], args: &[u32], literals: &[Literal]) -> bool
-    ensures { result ≡ list_all (definitions.literal_holds preds.now args.now) literals.now }
+fn any_is(preds: &[Pred], args: &[u32], sign: bool, literals: &[Literal]) -> bool
+    ensures { result ≡ list_any (literal_true (definitions.first_truths preds.now) args.now sign) literals.now }
 {
-    literals.iter().all(|x| literal_holds(preds, args, *x))
+    literals.iter().any(|x| literal_is(preds, args, sign, *x))
 }
 
-fn any_holds(preds: &[Pred], args: &[u32], literals: &[Literal]) -> bool
-    ensures { result ≡ list_any (definitions.literal_holds preds.now args.now) literals.now }
+/// Whether an instance of a clause is true at first: a literal of its premise is false, or one of
+/// its conclusion is true.
+#[tactic(auto, unfolding(crate::specs::AtStart::starts_at))]
+fn starts_at(preds: &[Pred], clause: &Clause, args: &[u32]) -> bool
+    ensures { result ≡ definitions.starts_at preds.now clause.now args.now }
 {
-    literals.iter().any(|x| literal_holds(preds, args, *x))
-}
-
-/// Whether an instance of a clause is true at first.
-#[tactic(auto, unfolding(crate::specs::AtStart::instance_holds))]
-fn instance_holds(preds: &[Pred], premise: &[Literal], conclusion: &[Literal], args: &[u32]) -> bool
-    ensures { result ≡ definitions.instance_holds preds.now premise.now conclusion.now args.now }
-{
-    !all_hold(preds, args, premise) || any_holds(preds, args, conclusion)
+    any_is(preds, args, false, clause.premise.as_slice())
+        || any_is(preds, args, true, clause.conclusion.as_slice())
 }
 
 /// Whether all instances that begin with these elements are true at first.
-fn hold_behind(
-    preds: &[Pred],
-    premise: &[Literal],
-    conclusion: &[Literal],
-    front: Args,
-    sizes: &[u32],
-) -> bool
+fn start_behind(preds: &[Pred], clause: &Clause, front: Args, sizes: &[u32]) -> bool
     requires { length front + length sizes.now ≤ 4 }
-    ensures { result ≡ list_all (λ xs. definitions.instance_holds preds.now premise.now conclusion.now (front ++ xs)) (tuples sizes.now) }
+    ensures { result ≡ list_all (λ xs. definitions.starts_at preds.now clause.now (front ++ xs)) (tuples sizes.now) }
 {
     if sizes.is_empty() {
-        return instance_holds(preds, premise, conclusion, front.as_slice());
+        return starts_at(preds, clause, front.as_slice());
     }
     let (first, others) = sizes.split_at(1);
     for x in 0..first[0] {
         let mut longer = front;
         longer.push(x);
-        if !hold_behind(preds, premise, conclusion, longer, others) {
+        if !start_behind(preds, clause, longer, others) {
             return false;
         }
     }
     true
 }
 
-/// Whether all instances of a clause over sorts of these sizes are true at first.
-#[tactic(auto, unfolding(crate::specs::AtStart::clause_holds))]
-pub(crate) fn clause_holds(
-    preds: &[Pred],
-    premise: &[Literal],
-    conclusion: &[Literal],
-    sizes: &[u32],
-) -> bool
-    requires { length sizes.now ≤ 4 }
-    ensures { result ≡ definitions.clause_holds preds.now premise.now conclusion.now sizes.now }
+/// The sizes of the variables' sorts, at most four.
+fn var_sizes(sorts: &[Sort], vars: &[Var]) -> Args
+    requires { length vars.now ≤ 4 }
+    ensures { result ≡ map (definitions.size_at sorts.now) (map (λ v. v.sort) vars.now) }
 {
-    hold_behind(preds, premise, conclusion, Args::new(), sizes)
+    let mut sizes = Args::new();
+    for x in vars {
+        sizes.push(size_at(sorts, x.sort));
+    }
+    sizes
+}
+
+/// Whether all instances of a clause are true at first.
+#[tactic(auto, unfolding(crate::specs::AtStart::clause_starts))]
+pub(crate) fn clause_starts(sorts: &[Sort], preds: &[Pred], clause: &Clause) -> bool
+    requires { length clause.now.vars ≤ 4 }
+    ensures { result ≡ definitions.clause_starts sorts.now preds.now clause.now }
+{
+    let sizes = var_sizes(sorts, clause.vars.as_slice());
+    start_behind(preds, clause, Args::new(), sizes.as_slice())
 }
 
 /// Whether a number isn't below its lower bound.

@@ -8,7 +8,7 @@ ghost use Rattle.spec_language.specs.AtStart as starts;
 ghost use Rattle.spec_language.specs.Names as names;
 ghost use Rattle.spec_language.specs.Bounds.{Bounds};
 
-use crate::at_start::{at_least, at_most, clause_holds, size_at, tuple_count};
+use crate::at_start::{at_least, at_most, clause_starts, tuple_count};
 use crate::effect::{change_last, touch_last};
 use crate::literals::{are_literals_known, literals_fit, literals_of};
 use crate::named::{are_free, has_name, is_reserved, place_of};
@@ -32,18 +32,6 @@ pub struct SpecDraft {
     pub universe: u64,
     /// How many instances the clauses have.
     pub instances: u64,
-}
-
-/// The sizes of the variables' sorts, at most four.
-fn var_sizes(sorts: &[Sort], places: &[u32]) -> Args
-    requires { length places.now ≤ 4 }
-    ensures { result ≡ map (starts.size_at sorts.now) places.now }
-{
-    let mut sizes = Args::new();
-    for x in places {
-        sizes.push(size_at(sorts, *x));
-    }
-    sizes
 }
 
 /// The places of the variables' sorts, at most four.
@@ -264,22 +252,21 @@ impl SpecDraft {
             vars.as_slice(),
             conclusion,
         )?;
-        let sizes = var_sizes(self.spec.sorts.as_slice(), sorts.as_slice());
-        guard(
-            clause_holds(
-                self.spec.preds.as_slice(),
-                premise.as_slice(),
-                conclusion.as_slice(),
-                sizes.as_slice(),
-            ),
-            Cause::FalseAtStart,
-        )?;
-        self.spec.clauses.push(Clause {
+        let clause = Clause {
             vars,
             premise,
             conclusion,
             mask,
-        })?;
+        };
+        guard(
+            clause_starts(
+                self.spec.sorts.as_slice(),
+                self.spec.preds.as_slice(),
+                &clause,
+            ),
+            Cause::FalseAtStart,
+        )?;
+        self.spec.clauses.push(clause)?;
         self.instances = instances;
         self.rank = 4;
         Ok(())

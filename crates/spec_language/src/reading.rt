@@ -5,7 +5,7 @@ ghost use Rattle.line_text.specs.Causes.{Gives};
 ghost use Rattle.line_text.specs.Texts.{GivesText};
 ghost use Rattle.spec_language.specs.Bounds.{Bounds};
 ghost use Rattle.spec_language.specs.Reading as reading;
-ghost use Rattle.spec_language.specs.WellFormed.{IsWellFormed};
+ghost use Rattle.spec_model.specs.Fits.{IsWellFormed};
 
 use crate::draft::SpecDraft;
 use ind_base::{List, Text};

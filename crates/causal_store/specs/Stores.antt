@@ -1,0 +1,26 @@
+-- A store of the code, as the definitions of runs see it.
+use Rattle.std.specs.Prelude.{◌≡◌, ℕ, ◌≤◌, List, length, map}
+use Rattle.std.specs.List.{AllByRecursion}
+use Rattle.spec_model.specs.declared.spec.Spec.{Spec}
+use Rattle.run_model.specs.Logs.{Logs}
+use Rattle.run_model.specs.Fitting.{ItemFits}
+use Rattle.causal_store.specs.declared.store.Store.{Store}
+
+-- the logs that it keeps, of each replica as far as it is known
+abbrev pub logs_in : Store → Logs
+logs_in s = s.logs.items
+
+-- how many items of each log it has
+abbrev pub cut_in : Store → List ℕ
+cut_in s = s.cut
+
+-- it keeps a log for each of so many replicas, of items that fit, and counts them
+pub record IsStore (spec : Spec) (replicas : ℕ) (s : Store) : Type 0 where
+  pub whole : length (logs_in s) ≡ replicas
+  pub few : replicas ≤ 16
+  pub counts : cut_in s ≡ map (λ log. length log) (logs_in s)
+  pub fits : AllByRecursion (AllByRecursion (ItemFits spec replicas)) (logs_in s)
+
+-- no log has more items than a sum of their changes can bear
+abbrev pub IsShort : Store → Type 0
+IsShort s = AllByRecursion (λ log. length log ≤ 4194304) (logs_in s)
