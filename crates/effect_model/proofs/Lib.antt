@@ -14,3 +14,4 @@ pub mod Pruned
 pub mod Standing
 pub mod Blocked
 pub mod Filled
+pub mod Fitted

@@ -11,3 +11,4 @@ pub mod Blocks
 pub mod Contents
 pub mod Firsts
 pub mod Keys
+pub mod Fitting
