@@ -1,18 +1,18 @@
 -- The blocks of a specification, and the places that they give.
-use Rattle.std.proofs.Common.{◌≡◌, ℕ, zero, suc, ◌+◌, ◌<◌, ◌≤◌, List, [], ◌∷◌, take, length, refl, sym, ap, ◌∙◌, subst, arith, Option, Some, None}
+use Rattle.std.proofs.Common.{◌≡◌, ℕ, zero, suc, ◌+◌, List, [], ◌∷◌, take, ap, ◌∙◌, arith, Some}
 use Rattle.std.specs.List.{slice_get, sum_by}
 use Rattle.std.proofs.lemmas.List.Sums.{sum_by-cons}
-use Rattle.std.proofs.lemmas.Option.{slice_get-get_or, slice_get_within}
+use Rattle.std.proofs.lemmas.Option.{slice_get-get_or}
 use Rattle.spec_model.specs.declared.instance.Atom.{Atom}
 use Rattle.spec_model.specs.declared.instance.Cell.{Cell}
 use Rattle.spec_model.specs.declared.spec.Spec.{Spec}
 use Rattle.spec_model.specs.Fits.{IsWellFormed}
 use Rattle.spec_model.specs.Truths.{pred_at, num_at, no_pred, no_num}
-use Rattle.spec_model.specs.Universe.{atoms, cells, sizes_of, tuple_count}
+use Rattle.spec_model.specs.Universe.{atoms, cells, sizes_of}
 use Rattle.effect_model.specs.declared.block.Block.{Block}
 use Rattle.effect_model.specs.Blocks.{blocks_from, pred_blocks, num_blocks, BlockFits, IsBlockPlace}
 use Rattle.effect_model.specs.Places.{AtomFits, CellFits, atom_index, cell_index}
-use Rattle.effect_model.specs.Tuples.{count_over, rank}
+use Rattle.effect_model.specs.Tuples.{count_over}
 use Rattle.effect_model.proofs.Declarations.{tuple, part_small, stands_there}
 use Rattle.effect_model.proofs.Listing.{pred_sorts, num_sorts, get-atoms, get-cells}
 use Rattle.effect_model.proofs.Sizes.{below_sizes}

@@ -1,5 +1,5 @@
 -- First truths and values, declaration by declaration.
-use Rattle.std.proofs.Common.{◌≡◌, ℕ, zero, suc, ◌+◌, ◌<◌, Bool, false, ℤ, pos, List, [], ◌∷◌, ◌++◌, map, replicate, drop, length, get_or, refl, sym, ap, ◌∙◌, subst, arith, append_assoc, Option, Some, None}
+use Rattle.std.proofs.Common.{◌≡◌, ℕ, ◌+◌, ◌<◌, Bool, false, ℤ, pos, List, [], ◌∷◌, ◌++◌, map, replicate, drop, length, get_or, refl, sym, ap, ◌∙◌, subst, arith, Option, Some}
 use Rattle.std.specs.List.{slice_get}
 use Rattle.std.specs.Option.{option_map, option_map_or}
 use Rattle.std.proofs.lemmas.Int.{to_z-of_z, ints}
@@ -17,7 +17,7 @@ use Rattle.spec_model.specs.Truths.{no_pred}
 use Rattle.spec_model.specs.Universe.{atoms, atoms_from, cells, cells_from, first_value, sizes_of, tuples, tuple_count}
 use Rattle.effect_model.specs.Contents.{IsFirst}
 use Rattle.effect_model.specs.Firsts.{atom_first}
-use Rattle.effect_model.specs.Places.{AtomFits, CellFits, atom_index, cell_index}
+use Rattle.effect_model.specs.Places.{atom_index, cell_index}
 use Rattle.effect_model.proofs.Blocked.{atom_there, cell_there}
 use Rattle.effect_model.proofs.Tuples.{length-tuples}
 use Rattle.effect_model.proofs.Turning.{turned}

@@ -1,5 +1,5 @@
 -- Sizes of sorts: none is 0, so no part of a product is greater than the whole.
-use Rattle.std.proofs.Common.{◌≡◌, ℕ, zero, suc, ◌+◌, ◌*◌, ◌<◌, ◌≤◌, List, [], ◌∷◌, map, length, get_or, drop, refl, sym, ap, ◌∙◌, subst, arith, mul_assoc, None}
+use Rattle.std.proofs.Common.{◌≡◌, ℕ, zero, suc, ◌+◌, ◌*◌, ◌<◌, ◌≤◌, List, [], ◌∷◌, length, get_or, drop, refl, sym, ap, ◌∙◌, arith, mul_assoc, None}
 use Rattle.std.specs.List.{AllByRecursion, slice_get}
 use Rattle.std.proofs.lemmas.List.{drop_more}
 use Rattle.std.proofs.lemmas.Nat.{mul-le}
@@ -8,7 +8,7 @@ use Rattle.spec_model.specs.declared.spec.Sort.{Sort}
 use Rattle.spec_model.specs.Fits.{SortFits}
 use Rattle.spec_model.specs.Truths.{Within, size_of, no_sort}
 use Rattle.spec_model.specs.Universe.{tuple_count, sizes_of}
-use Rattle.effect_model.specs.Tuples.{SortsKnown, rank}
+use Rattle.effect_model.specs.Tuples.{SortsKnown}
 use Rattle.effect_model.proofs.Tuples.{Below}
 
 -- what holds of each element of a list holds of the one at a place, and of each that is left

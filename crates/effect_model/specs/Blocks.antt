@@ -1,5 +1,5 @@
 -- Where the tuples of each declaration begin.
-use Rattle.std.specs.Prelude.{◌≡◌, ℕ, ◌+◌, ◌≤◌, List, [], ◌∷◌, sum_by, slice_get, Some}
+use Rattle.std.specs.Prelude.{◌≡◌, ℕ, ◌+◌, ◌≤◌, List, [], ◌∷◌, slice_get, Some}
 use Rattle.spec_model.specs.declared.spec.Num.{Num}
 use Rattle.spec_model.specs.declared.spec.Pred.{Pred}
 use Rattle.spec_model.specs.declared.spec.Spec.{Spec}

@@ -1,5 +1,5 @@
 -- A state: the truth of every atom and the value of every cell, in the order of the universe.
-use Rattle.std.specs.Prelude.{◌≡◌, ℕ, ℤ, pos, Bool, false, List, get_or}
+use Rattle.std.specs.Prelude.{◌≡◌, ℤ, pos, Bool, false, List, get_or}
 use Rattle.spec_model.specs.declared.instance.Atom.{Atom}
 use Rattle.spec_model.specs.declared.instance.Cell.{Cell}
 use Rattle.spec_model.specs.declared.spec.Spec.{Spec}

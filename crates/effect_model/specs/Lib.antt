@@ -12,3 +12,4 @@ pub mod Contents
 pub mod Firsts
 pub mod Keys
 pub mod Fitting
+pub mod Laying

@@ -12,6 +12,7 @@ mod laws;
 mod layout;
 mod map;
 mod places;
+mod pruning;
 mod state;
 mod touching;
 mod truth;

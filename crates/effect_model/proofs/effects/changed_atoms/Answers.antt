@@ -1,4 +1,4 @@
-use Rattle.std.proofs.Common.{◌≡◌, ◌<◌, ◌∙◌, length, get_or, sym, ap}
+use Rattle.std.proofs.Common.{◌∙◌, ap}
 use Rattle.spec_model.specs.Universe.{sizes_of}
 use Rattle.effect_model.proofs.Turning.{atoms_done}
 use Rattle.effect_model.proofs.effects.changed_atoms.Goals as goal

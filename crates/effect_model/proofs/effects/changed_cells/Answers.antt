@@ -1,4 +1,4 @@
-use Rattle.std.proofs.Common.{◌≡◌, ◌++◌, ◌<◌, ◌∙◌, ap, length, get_or, sym, List, ℕ}
+use Rattle.std.proofs.Common.{◌≡◌, ◌++◌, ◌∙◌, ap, List, ℕ}
 use Rattle.std.specs.List.{flat_map}
 use Rattle.spec_model.specs.Universe.{tuples, sizes_of}
 use Rattle.effect_model.specs.Effects.{cell_change}

@@ -1,7 +1,6 @@
-use Rattle.std.proofs.Common.{◌≡◌, ◌++◌, ◌<◌, ◌∙◌, ap, length, get_or, sym, subst, List, ℕ, is_some, Some, Bool, []}
+use Rattle.std.proofs.Common.{◌≡◌, ◌++◌, ◌∙◌, ap, sym, subst, List, ℕ, is_some, Some, Bool, []}
 use Rattle.std.specs.List.{flat_map, AllByRecursion, slice_get}
 use Rattle.std.proofs.lemmas.Option.{slice_get-get_or}
-use Rattle.spec_model.specs.declared.right.Need.{Need}
 use Rattle.spec_model.specs.Universe.{tuples, sizes_of}
 use Rattle.effect_model.specs.Amounts.{IsFew}
 use Rattle.effect_model.specs.Turns.{cell_needs}

@@ -1,4 +1,4 @@
-use Rattle.std.proofs.Common.{◌≡◌, ◌∙◌, ◌&&◌, ◌+◌, ◌≤◌, sym, ap, arith, length, Bool, true, false, drop}
+use Rattle.std.proofs.Common.{◌≡◌, ◌∙◌, ◌&&◌, ◌+◌, sym, ap, arith, Bool, true, false, drop}
 use Rattle.effect_model.specs.Fitting.{args_fit, arg_at_fits}
 use Rattle.effect_model.proofs.Fitted.{arg_step, arg_inside, args_end}
 use Rattle.effect_model.proofs.fitting.args_fit.Goals as goal

@@ -1,6 +1,5 @@
-use Rattle.std.proofs.Common.{◌≡◌, ◌+◌, ◌<◌, ◌≤◌, ◌∙◌, ap, sym, subst, List, ℕ, Some, arith, refl, take}
+use Rattle.std.proofs.Common.{◌≡◌, ◌∙◌, ap, List, ℕ, arith, take}
 use Rattle.std.specs.List.{sum_by}
-use Rattle.spec_model.specs.Truths.{Within, size_of}
 use Rattle.spec_model.specs.Universe.{sizes_of, tuple_count}
 use Rattle.effect_model.specs.Tuples.{count_over, rank}
 use Rattle.effect_model.proofs.Sizes.{below_sizes}

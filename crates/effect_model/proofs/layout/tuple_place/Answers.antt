@@ -1,8 +1,6 @@
-use Rattle.std.proofs.Common.{◌≡◌, ◌<◌, ◌≤◌, ◌*◌, ◌+◌, length, drop, get_or, arith, ◌∙◌, sym}
-use Rattle.spec_model.specs.Universe.{tuple_count}
-use Rattle.effect_model.specs.Tuples.{rank}
+use Rattle.std.proofs.Common.{◌<◌, length, arith}
 use Rattle.effect_model.proofs.Sizes.{within_length}
-use Rattle.effect_model.proofs.Placing.{IsPlacing, placing_more, placing_small}
+use Rattle.effect_model.proofs.Placing.{placing_more, placing_small}
 use Rattle.effect_model.proofs.layout.tuple_place.Goals as goal
 
 pub overflow_mul-place : goal.overflow_mul-place

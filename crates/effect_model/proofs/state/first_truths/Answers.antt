@@ -1,4 +1,4 @@
-use Rattle.std.proofs.Common.{◌≡◌, ◌∙◌, ap}
+use Rattle.std.proofs.Common.{◌∙◌, ap}
 use Rattle.spec_model.specs.Universe.{sizes_of, tuple_count}
 use Rattle.effect_model.proofs.Filled.{truths_filled}
 use Rattle.effect_model.proofs.state.first_truths.Goals as goal

@@ -1,5 +1,5 @@
 use Rattle.std.proofs.Common.{◌≡◌, ◌++◌, drop, map}
-use Rattle.spec_model.specs.Universe.{atoms, atoms_from, first_value}
+use Rattle.spec_model.specs.Universe.{atoms, atoms_from}
 use Rattle.effect_model.specs.Firsts.{atom_first}
 use Rattle.effect_model.proofs.state.first_truths.Given as goal
 

@@ -1,6 +1,5 @@
 use Rattle.std.proofs.Common.{◌≡◌, ◌++◌, drop, map}
 use Rattle.spec_model.specs.Universe.{cells, cells_from, first_value}
-use Rattle.effect_model.specs.Firsts.{atom_first}
 use Rattle.effect_model.proofs.state.first_values.Given as goal
 
 abbrev pub invariant-loop-num : goal.invariant-loop-num

@@ -1,9 +1,7 @@
-use Rattle.std.proofs.Common.{◌≡◌, ◌<◌, ◌∙◌, ap, sym, subst, List, ℕ}
+use Rattle.std.proofs.Common.{◌≡◌, ◌∙◌, ap}
 use Rattle.std.proofs.lemmas.Option.{slice_get_within}
 use Rattle.spec_model.specs.Universe.{atoms}
-use Rattle.effect_model.specs.declared.block.Block.{Block}
-use Rattle.effect_model.specs.Blocks.{pred_blocks, BlockFits, IsBlockPlace}
-use Rattle.effect_model.specs.Places.{atom_index}
+use Rattle.effect_model.specs.Blocks.{pred_blocks}
 use Rattle.effect_model.proofs.Blocked.{atom_block, atom_placed, atom_there}
 use Rattle.effect_model.proofs.map.Places.atom_place.Goals as goal
 

@@ -1,9 +1,7 @@
-use Rattle.std.proofs.Common.{◌≡◌, ◌<◌, ◌∙◌, ap, sym, subst, List, ℕ}
+use Rattle.std.proofs.Common.{◌≡◌, ◌∙◌, ap}
 use Rattle.std.proofs.lemmas.Option.{slice_get_within}
 use Rattle.spec_model.specs.Universe.{cells}
-use Rattle.effect_model.specs.declared.block.Block.{Block}
-use Rattle.effect_model.specs.Blocks.{num_blocks, BlockFits, IsBlockPlace}
-use Rattle.effect_model.specs.Places.{cell_index}
+use Rattle.effect_model.specs.Blocks.{num_blocks}
 use Rattle.effect_model.proofs.Blocked.{cell_block, cell_placed, cell_there}
 use Rattle.effect_model.proofs.map.Places.cell_place.Goals as goal
 
