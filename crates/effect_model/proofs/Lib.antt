@@ -2,6 +2,7 @@ pub mod Tuples
 pub mod Sizes
 pub mod Placing
 pub mod Declarations
+pub mod Sought
 pub mod Listing
 pub mod Whole
 pub mod Terms
@@ -11,4 +12,8 @@ pub mod Untouched
 pub mod Needed
 pub mod Turning
 pub mod Pruned
+pub mod Searched
 pub mod Standing
+pub mod Blocked
+pub mod Filled
+pub mod Fitted

@@ -1,22 +1,22 @@
 -- A tuple's place is found from the first number on, and a tuple from its place.
-use Rattle.std.proofs.Common.{◌≡◌, ℕ, zero, suc, ◌+◌, ◌*◌, ◌/◌, ◌%◌, ◌<◌, ◌≤◌, List, [], ◌∷◌, ◌++◌, map, length, get_or, drop, refl, sym, ap, ◌∙◌, subst, arith, append_assoc, length-append, add-mul, mul_assoc}
+use Rattle.std.proofs.Common.{◌≡◌, ℕ, ◌+◌, ◌*◌, ◌/◌, ◌%◌, ◌<◌, ◌≤◌, List, [], ◌∷◌, ◌++◌, length, get_or, drop, refl, sym, ap, ◌∙◌, subst, arith, append_assoc, add-mul, mul_assoc}
 use Rattle.std.specs.List.{AllByRecursion}
 use Rattle.std.proofs.Math.Nat.{mul-div_cancel_left}
-use Rattle.std.proofs.lemmas.List.{drop_more, append-nil}
+use Rattle.std.proofs.lemmas.List.{drop_more}
 use Rattle.std.proofs.lemmas.Nat.{mul-le, mod_below}
 use Rattle.spec_model.specs.declared.spec.Spec.{Spec}
 use Rattle.spec_model.specs.Fits.{SortFits}
-use Rattle.spec_model.specs.Truths.{Within, size_of}
+use Rattle.spec_model.specs.Truths.{size_of}
 use Rattle.spec_model.specs.Universe.{tuple_count, sizes_of}
 use Rattle.effect_model.specs.Tuples.{SortsKnown, rank, tuple_at}
 use Rattle.effect_model.proofs.Sizes.{size_some, count_within, all_at, factor_small}
-use Rattle.effect_model.proofs.Tuples.{some_count}
+use Rattle.effect_model.proofs.Tuples.{some_count, Below}
 
--- the place so far, before these sorts and elements: what is left gives the whole place, and it stays within the count
-pub record IsPlacing (spec : Spec) (total count : ℕ) (place : ℕ) (sorts xs : List ℕ) : Type 0 where
-  pub gives : place * tuple_count (sizes_of spec sorts) + rank (sizes_of spec sorts) xs ≡ total
-  pub room : (place + 1) * tuple_count (sizes_of spec sorts) ≤ count
-  pub within : Within (size_of spec) sorts xs
+-- the place so far, before these sizes and elements: what is left gives the whole place, and it stays within the count
+pub record IsPlacing (total count place : ℕ) (sizes xs : List ℕ) : Type 0 where
+  pub gives : place * tuple_count sizes + rank sizes xs ≡ total
+  pub room : (place + 1) * tuple_count sizes ≤ count
+  pub within : Below sizes xs
 
 horner : (p s x w r : ℕ) → (p * s + x) * w + r ≡ p * (s * w) + (x * w + r)
 horner p s x w r =
@@ -24,31 +24,30 @@ horner p s x w r =
     let turned : (p * s) * w ≡ p * (s * w) = mul_assoc p s w in
     omega arith
 
-placing_cons : (spec : Spec) (total count place s x : ℕ) (sorts xs : List ℕ) → IsPlacing spec total count place (s ∷ sorts) (x ∷ xs) → IsPlacing spec total count (place * size_of spec s + x) sorts xs
-placing_cons spec total count place s x sorts xs p =
-    let w = tuple_count (sizes_of spec sorts) in
-    let size = size_of spec s in
+placing_cons : (total count place size x : ℕ) (sizes xs : List ℕ) → IsPlacing total count place (size ∷ sizes) (x ∷ xs) → IsPlacing total count (place * size + x) sizes xs
+placing_cons total count place size x sizes xs p =
+    let w = tuple_count sizes in
     let lt : x < size = p.within.0 in
     let next : (place + 1) * size ≡ place * size + size = add-mul place 1 size ∙ omega arith in
     let more : (place * size + x + 1) * w ≤ ((place + 1) * size) * w = mul-le (place * size + x + 1) w ((place + 1) * size) w (omega arith) (omega arith) in
     let whole : (place + 1) * (size * w) ≤ count = p.room in
     record {
-      gives = horner place size x w (rank (sizes_of spec sorts) xs) ∙ p.gives;
+      gives = horner place size x w (rank sizes xs) ∙ p.gives;
       room = omega (arith, mul_assoc (place + 1) size w);
       within = p.within.1;
     }
 
 -- one more number was taken
-pub placing_more : (spec : Spec) (total count place i d e : ℕ) (sorts xs : List ℕ) → i < length sorts → i < length xs → IsPlacing spec total count place (drop i sorts) (drop i xs)
-    → IsPlacing spec total count (place * size_of spec (get_or sorts i d) + get_or xs i e) (drop (i + 1) sorts) (drop (i + 1) xs)
-placing_more spec total count place i d e sorts xs lt lx p =
-    placing_cons spec total count place (get_or sorts i d) (get_or xs i e) (drop (i + 1) sorts) (drop (i + 1) xs)
-    (subst (λ (ss : List ℕ). IsPlacing spec total count place ss (get_or xs i e ∷ drop (i + 1) xs)) (drop_more sorts i d lt) (subst (λ (ys : List ℕ). IsPlacing spec total count place (drop i sorts) ys) (drop_more xs i e lx) p))
+pub placing_more : (total count place i d e : ℕ) (sizes xs : List ℕ) → i < length sizes → i < length xs → IsPlacing total count place (drop i sizes) (drop i xs)
+    → IsPlacing total count (place * get_or sizes i d + get_or xs i e) (drop (i + 1) sizes) (drop (i + 1) xs)
+placing_more total count place i d e sizes xs lt lx p =
+    placing_cons total count place (get_or sizes i d) (get_or xs i e) (drop (i + 1) sizes) (drop (i + 1) xs)
+    (subst (λ (ss : List ℕ). IsPlacing total count place ss (get_or xs i e ∷ drop (i + 1) xs)) (drop_more sizes i d lt) (subst (λ (ys : List ℕ). IsPlacing total count place (drop i sizes) ys) (drop_more xs i e lx) p))
 
 -- the place so far is below the count
-pub placing_small : (spec : Spec) (total count place : ℕ) (sorts xs : List ℕ) → IsPlacing spec total count place sorts xs → place < count
-placing_small spec total count place sorts xs p =
-    let le = factor_small (place + 1) (tuple_count (sizes_of spec sorts)) (count_within spec sorts xs p.within) in
+pub placing_small : (total count place : ℕ) (sizes xs : List ℕ) → IsPlacing total count place sizes xs → place < count
+placing_small total count place sizes xs p =
+    let le = factor_small (place + 1) (tuple_count sizes) (count_within sizes xs p.within) in
     omega (arith, p.room, le)
 
 -- the numbers so far, with those that are still to come, are the tuple

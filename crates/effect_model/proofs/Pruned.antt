@@ -1,12 +1,10 @@
 -- The first broken instance is looked for only where an effect may set an atom of the clause.
-use Rattle.std.proofs.Common.{◌≡◌, ◌⊎◌, inl, inr, ℕ, zero, suc, ◌+◌, ◌<◌, ◌≤◌, Bool, true, false, not, ◌&&◌, ◌||◌, List, [], ◌∷◌, ◌++◌, map, take, drop, length, get_or, is_some, if◌then◌else◌, refl, sym, ap, ◌∙◌, subst, arith, add-one, append_assoc, Option, Some, None}
-use Rattle.std.specs.List.{list_any, find, flat_map, slice_get}
-use Rattle.std.specs.Option.{option_or, option_map_or}
-use Rattle.std.proofs.lemmas.List.{append-nil, map-append, drop_more, get_or_append_left}
-use Rattle.std.proofs.lemmas.List.Folds.{find-append, list_any-append}
-use Rattle.std.proofs.lemmas.List.Concat.{flat_map-append}
+use Rattle.std.proofs.Common.{◌≡◌, ℕ, zero, suc, ◌<◌, Bool, true, false, not, ◌&&◌, ◌||◌, List, [], ◌∷◌, ◌++◌, map, drop, length, get_or, is_some, if◌then◌else◌, refl, sym, ap, ◌∙◌, arith, Option, Some, None}
+use Rattle.std.specs.List.{list_any, find, slice_get}
+use Rattle.std.specs.Option.{option_map_or}
+use Rattle.std.proofs.lemmas.List.{get_or_append_left}
+use Rattle.std.proofs.lemmas.List.Folds.{list_any-append}
 use Rattle.std.specs.Prelude.{◌==◌}
-use Rattle.std.proofs.lemmas.Bool.{cases_lt}
 use Rattle.std.proofs.lemmas.Option.{slice_get_within, get_or_from_slice_get}
 use Rattle.spec_model.specs.declared.clause.Clause.{Clause}
 use Rattle.spec_model.specs.declared.clause.Literal.{Literal}
@@ -16,9 +14,9 @@ use Rattle.spec_model.specs.declared.operation.Line.{Line}
 use Rattle.spec_model.specs.declared.operation.Line.TheVariants.{Set, Clear, Add, Sub}
 use Rattle.spec_model.specs.declared.spec.Spec.{Spec}
 use Rattle.spec_model.specs.declared.operation.Term.{Term}
-use Rattle.spec_model.specs.Truths.{Within, Truths, terms_touch, term_has, line_sets, lines_set, inst_has, op_at, values, Signed, signed, literals, instance_true}
+use Rattle.spec_model.specs.Truths.{Truths, terms_touch, term_has, line_sets, lines_set, inst_has, op_at, values, Signed, signed, literals, instance_true}
 use Rattle.spec_model.specs.Breaks.{literal_set, breaks_at, laid_over}
-use Rattle.spec_model.specs.Universe.{below, tuples}
+use Rattle.spec_model.specs.Universe.{tuples}
 use Rattle.effect_model.specs.Pruning.{term_may, terms_may, line_may, literal_may, clause_may, tuples_behind}
 
 -- too few variables for the terms
@@ -27,10 +25,6 @@ short_vars has front [] i vars lt few = absurd (omega arith)
 short_vars has front (t ∷ terms) zero [] lt few = refl
 short_vars has front (t ∷ terms) zero (v ∷ vars) lt few = absurd (omega arith)
 short_vars has front (t ∷ terms) (suc i) vars lt few = short_vars has front terms i vars (omega arith) few
-
--- the tuples that begin with a number below x
-abbrev pub tuples_upto : List ℕ → List ℕ → ℕ → List (List ℕ)
-tuples_upto front others x = map (λ xs. front ++ xs) (flat_map (λ y. map (λ xs. y ∷ xs) (tuples others)) (below x))
 
 -- literals of a clause, by its two sides
 any_mapped : {X Y : Type 0} (p : Y → Bool) (f : X → Y) (xs : List X) → list_any p (map f xs) ≡ list_any (λ x. p (f x)) xs
@@ -117,71 +111,3 @@ find_none p f (t ∷ ts) none = rw (none t) (find_none p f ts none)
 pub none_broken : (spec : Spec) (inst : Inst) (s : Truths) (c : Clause) (front sizes : List ℕ) (lines : List Line) → lines ≡ (op_at spec inst.op).lines → clause_may inst lines front c ≡ false → None ≡ find (breaks_at spec inst s c) (tuples_behind front sizes)
 none_broken spec inst s c front sizes lines is e =
     sym (find_none (breaks_at spec inst s c) (λ xs. front ++ xs) (tuples sizes) (λ xs. clause_misses spec inst s c front xs (sym (ap (λ (ls : List Line). clause_may inst ls front c) is) ∙ e)))
-
--- ---- element by element
-
--- the numbers below n begin with those below x
-below_parts : (n x : ℕ) → x ≤ n → (rest : List ℕ) × (below n ≡ below x ++ rest)
-below_parts zero x le = let same : zero ≡ x = omega arith in ([], ap below same ∙ sym (append-nil (below x)))
-below_parts (suc n) x le = elim (cases_lt n x) [
-  | inl more ↦ let same : suc n ≡ x = omega arith in ([], ap below same ∙ sym (append-nil (below x)))
-  | inr less ↦ let r = below_parts n x less in (r.0 ++ n ∷ [], ap (λ (ns : List ℕ). ns ++ n ∷ []) r.1 ∙ append_assoc (below x) r.0 (n ∷ []))
-]
-
-abbrev with_first : List ℕ → ℕ → List (List ℕ)
-with_first others y = map (λ xs. y ∷ xs) (tuples others)
-
-upto_parts : (front others : List ℕ) (n x : ℕ) → x ≤ n → (rest : List (List ℕ)) × (tuples_upto front others n ≡ tuples_upto front others x ++ rest)
-upto_parts front others n x le =
-    let r = below_parts n x le in (
-      map (λ xs. front ++ xs) (flat_map (with_first others) r.0),
-      ap (λ (ns : List ℕ). map (λ xs. front ++ xs) (flat_map (with_first others) ns)) r.1
-          ∙ ap (map (λ (xs : List ℕ). front ++ xs)) (flat_map-append (with_first others) (below x) r.0)
-          ∙ map-append (λ (xs : List ℕ). front ++ xs) (flat_map (with_first others) (below x)) (flat_map (with_first others) r.0),
-    )
-
-map_behind : (front : List ℕ) (x : ℕ) (ts : List (List ℕ)) → map (λ xs. front ++ xs) (map (λ xs. x ∷ xs) ts) ≡ map (λ xs. (front ++ x ∷ []) ++ xs) ts
-map_behind front x [] = refl
-map_behind front x (t ∷ ts) = rw (← append_assoc front (x ∷ []) t, map_behind front x ts) refl
-
-upto_more : (front others longer : List ℕ) (x : ℕ) → longer ≡ front ++ x ∷ [] → tuples_upto front others (x + 1) ≡ tuples_upto front others x ++ tuples_behind longer others
-upto_more front others longer x is =
-    ap (tuples_upto front others) (add-one x)
-    ∙ ap (map (λ (xs : List ℕ). front ++ xs)) (flat_map-append (with_first others) (below x) (x ∷ []) ∙ ap (λ (ts : List (List ℕ)). flat_map (with_first others) (below x) ++ ts) (append-nil (with_first others x)))
-    ∙ map-append (λ (xs : List ℕ). front ++ xs) (flat_map (with_first others) (below x)) (with_first others x)
-    ∙ ap (λ (ts : List (List ℕ)). tuples_upto front others x ++ ts) (map_behind front x (tuples others) ∙ ap (λ (f : List ℕ). tuples_behind f others) (sym is))
-
--- none of those so far, and none that begins with the next element
-pub none_more : (p : List ℕ → Bool) (front others longer : List ℕ) (x : ℕ) (found : Option (List ℕ)) → longer ≡ front ++ x ∷ [] → find p (tuples_upto front others x) ≡ None → found ≡ find p (tuples_behind longer others) → is_some found ≡ false → find p (tuples_upto front others (x + 1)) ≡ None
-none_more p front others longer x found is before now none =
-    ap (find p) (upto_more front others longer x is) ∙ find-append p (tuples_upto front others x) (tuples_behind longer others)
-    ∙ ap (λ (o : Option (List ℕ)). option_or o (find p (tuples_behind longer others))) before ∙ sym now ∙ is_none found none
-  where
-    is_none : (o : Option (List ℕ)) → is_some o ≡ false → o ≡ None
-    is_none None e = refl
-    is_none (Some x) e = absurd cc
-
--- none of those so far, and one that begins with the next element
-pub found_more : (p : List ℕ → Bool) (front sizes first others longer : List ℕ) (x d : ℕ) (found : Option (List ℕ)) → ((length sizes ≡ 0) → ⊥) → first ≡ take 1 sizes → others ≡ drop 1 sizes → x < get_or first 0 d → longer ≡ front ++ x ∷ [] → find p (tuples_upto front others x) ≡ None → found ≡ find p (tuples_behind longer others)
-    → is_some found ≡ true → found ≡ find p (tuples_behind front sizes)
-found_more p front [] first others longer x d found some f r lt is before now yes_is = absurd (some refl)
-found_more p front (n ∷ sizes) first others longer x d found some f r lt is before now yes_is =
-    let size : get_or first 0 d ≡ n = ap (λ (xs : List ℕ). get_or xs 0 d) f in
-    let parts = upto_parts front others n (x + 1) (omega arith) in
-    let upto : find p (tuples_upto front others (x + 1)) ≡ found =
-    ap (find p) (upto_more front others longer x is) ∙ find-append p (tuples_upto front others x) (tuples_behind longer others) ∙ ap (λ (o : Option (List ℕ)). option_or o (find p (tuples_behind longer others))) before ∙ sym now in
-    sym (ap (λ (os : List ℕ). find p (tuples_upto front os n)) (sym r) ∙ ap (find p) parts.1 ∙ find-append p (tuples_upto front others (x + 1)) parts.0 ∙ ap (λ (o : Option (List ℕ)). option_or o (find p parts.0)) upto ∙ kept found (find p parts.0) yes_is)
-  where
-    kept : (a b : Option (List ℕ)) → is_some a ≡ true → option_or a b ≡ a
-    kept None b e = absurd cc
-    kept (Some x) b e = refl
-
--- what holds of all tuples behind some elements holds of those behind one element more
-pub behind_longer : (P : List ℕ → Type 0) (front sizes first others longer : List ℕ) (x d : ℕ) → ((length sizes ≡ 0) → ⊥) → first ≡ take 1 sizes → others ≡ drop 1 sizes → x < get_or first 0 d → longer ≡ front ++ x ∷ []
-    → ((xs : List ℕ) → Within (λ s. s) sizes xs → P (front ++ xs)) → (xs : List ℕ) → Within (λ s. s) others xs → P (longer ++ xs)
-behind_longer P front [] first others longer x d some f r lt is all xs w = absurd (some refl)
-behind_longer P front (n ∷ sizes) first others longer x d some f r lt is all xs w =
-    let size : get_or first 0 d ≡ n = ap (λ (ys : List ℕ). get_or ys 0 d) f in
-    let less : x < n = omega arith in
-    let within = subst (λ (os : List ℕ). Within (λ s. s) os xs) r w in
-    subst P (sym (append_assoc front (x ∷ []) xs) ∙ ap (λ (ys : List ℕ). ys ++ xs) (sym is)) (all (x ∷ xs) (less, within))

@@ -1,5 +1,5 @@
 -- Sizes of sorts: none is 0, so no part of a product is greater than the whole.
-use Rattle.std.proofs.Common.{◌≡◌, ℕ, zero, suc, ◌+◌, ◌*◌, ◌<◌, ◌≤◌, List, [], ◌∷◌, map, length, get_or, drop, refl, sym, ap, ◌∙◌, subst, arith, mul_assoc, None}
+use Rattle.std.proofs.Common.{◌≡◌, ℕ, zero, suc, ◌+◌, ◌*◌, ◌<◌, ◌≤◌, List, [], ◌∷◌, length, get_or, drop, refl, sym, ap, ◌∙◌, arith, mul_assoc, None}
 use Rattle.std.specs.List.{AllByRecursion, slice_get}
 use Rattle.std.proofs.lemmas.List.{drop_more}
 use Rattle.std.proofs.lemmas.Nat.{mul-le}
@@ -8,7 +8,7 @@ use Rattle.spec_model.specs.declared.spec.Sort.{Sort}
 use Rattle.spec_model.specs.Fits.{SortFits}
 use Rattle.spec_model.specs.Truths.{Within, size_of, no_sort}
 use Rattle.spec_model.specs.Universe.{tuple_count, sizes_of}
-use Rattle.effect_model.specs.Tuples.{SortsKnown, rank}
+use Rattle.effect_model.specs.Tuples.{SortsKnown}
 use Rattle.effect_model.proofs.Tuples.{Below}
 
 -- what holds of each element of a list holds of the one at a place, and of each that is left
@@ -33,12 +33,12 @@ pub count_some : (spec : Spec) (sorts : List ℕ) → AllByRecursion SortFits sp
 count_some spec [] sizes known = omega arith
 count_some spec (s ∷ sorts) sizes known = positive (size_of spec s) (tuple_count (sizes_of spec sorts)) (size_some spec s sizes known.0) (count_some spec sorts sizes known.1)
 
--- and over sorts with a tuple of elements
-pub count_within : (spec : Spec) (sorts xs : List ℕ) → Within (size_of spec) sorts xs → 1 ≤ tuple_count (sizes_of spec sorts)
-count_within spec [] [] w = omega arith
-count_within spec [] (x ∷ xs) w = absurd w
-count_within spec (s ∷ sorts) [] w = absurd w
-count_within spec (s ∷ sorts) (x ∷ xs) w = positive (size_of spec s) (tuple_count (sizes_of spec sorts)) (omega (arith, w.0)) (count_within spec sorts xs w.1)
+-- and below sizes with a tuple
+pub count_within : (sizes xs : List ℕ) → Below sizes xs → 1 ≤ tuple_count sizes
+count_within [] [] w = omega arith
+count_within [] (x ∷ xs) w = absurd w
+count_within (s ∷ sizes) [] w = absurd w
+count_within (s ∷ sizes) (x ∷ xs) w = positive s (tuple_count sizes) (omega (arith, w.0)) (count_within sizes xs w.1)
 
 -- a factor is at most the product
 pub factor_small : (a b : ℕ) → 1 ≤ b → a ≤ a * b

@@ -1,13 +1,13 @@
 -- The atoms of a clause that fits, at elements of its variables' sorts, are atoms of the universe.
-use Rattle.std.proofs.Common.{◌≡◌, ℕ, zero, suc, ◌+◌, ◌<◌, List, [], ◌∷◌, ◌++◌, map, drop, length, get_or, Bool, true, false, refl, sym, ap, ◌∙◌, subst, arith, add-one, Option, Some, None}
+use Rattle.std.proofs.Common.{ℕ, zero, suc, ◌<◌, List, [], ◌∷◌, ◌++◌, map, length, get_or, Bool, true, false, sym, subst, arith}
 use Rattle.std.specs.List.{AllByRecursion, AllZip}
-use Rattle.std.proofs.lemmas.List.{drop_more, append-nil}
+use Rattle.std.proofs.lemmas.List.{append-nil}
 use Rattle.spec_model.specs.declared.clause.Clause.{Clause}
 use Rattle.spec_model.specs.declared.clause.Literal.{Literal}
 use Rattle.spec_model.specs.declared.clause.Literal.TheVariants.{Atom, Equal}
 use Rattle.spec_model.specs.declared.spec.Spec.{Spec}
 use Rattle.spec_model.specs.Fits.{LiteralFits, ClauseFits, PlaceFits}
-use Rattle.spec_model.specs.Truths.{Truths, Within, size_of, pred_at, values, var_sorts, Signed, signed}
+use Rattle.spec_model.specs.Truths.{Within, size_of, pred_at, values, var_sorts, Signed, signed}
 use Rattle.effect_model.specs.Pruning.{LiteralStands, ClauseStands}
 
 within_at : (size : ℕ → ℕ) (sorts xs : List ℕ) (i : ℕ) → Within size sorts xs → i < length sorts → get_or xs i 0 < size (get_or sorts i 0)

@@ -1,11 +1,11 @@
 -- What terms touch, and the first elements of what they touch.
-use Rattle.std.proofs.Common.{◌≡◌, ℕ, zero, suc, ◌+◌, ◌<◌, Bool, true, false, ◌&&◌, leb, List, [], ◌∷◌, ◌++◌, drop, length, get_or, refl, sym, ap, ◌∙◌, arith, Option, Some, None}
+use Rattle.std.proofs.Common.{◌≡◌, ℕ, zero, suc, ◌<◌, Bool, false, ◌&&◌, leb, List, [], ◌∷◌, drop, length, get_or, refl, sym, ap, ◌∙◌, arith, None}
 use Rattle.std.specs.List.{slice_get}
 use Rattle.std.proofs.Math.Dec.{leb-suc-zero}
 use Rattle.std.proofs.Math.Bool.{and-false}
 use Rattle.ind_base.specs.declared.span.Span.{Span}
 use Rattle.spec_model.specs.declared.operation.Term.{Term}
-use Rattle.spec_model.specs.Truths.{terms_touch, term_has, span_has, no_span}
+use Rattle.spec_model.specs.Truths.{terms_touch, span_has, no_span}
 use Rattle.effect_model.specs.Touching.{terms_begin, begins_with}
 
 -- nothing lies in an argument that isn't there

@@ -1,5 +1,5 @@
 -- The effect on all that is declared, one declaration after another.
-use Rattle.std.proofs.Common.{◌≡◌, ℕ, zero, suc, ◌+◌, ◌<◌, ◌≤◌, List, [], ◌∷◌, ◌++◌, map, length, get_or, drop, refl, sym, ap, ◌∙◌, arith, append_assoc, ◌-◌, is_some, Option, Some, None, ℤ}
+use Rattle.std.proofs.Common.{◌≡◌, ℕ, zero, suc, ◌+◌, ◌<◌, ◌≤◌, List, [], ◌∷◌, ◌++◌, map, length, get_or, drop, refl, sym, ap, ◌∙◌, append_assoc, ◌-◌, is_some, Option, Some, None}
 use Rattle.std.specs.List.{flat_map, slice_get, sum_by}
 use Rattle.std.specs.Option.{option_map_or}
 use Rattle.std.proofs.lemmas.List.{drop_more, drop_all, append-nil}
@@ -18,7 +18,6 @@ use Rattle.spec_model.specs.Truths.{op_at, no_op}
 use Rattle.spec_model.specs.Changes.{effect_lines, line_adds, line_subtracts, added, subtracted}
 use Rattle.spec_model.specs.Universe.{tuples, sizes_of, atoms_from, cells_from}
 use Rattle.effect_model.specs.declared.change.AtomChange.{AtomChange}
-use Rattle.effect_model.specs.declared.change.CellChange.{CellChange}
 use Rattle.effect_model.specs.Effects.{atom_change, cell_change, with_net}
 use Rattle.effect_model.specs.Turns.{atoms_set_by, cells_changed_by, count_need, where_bounded, cell_needs}
 use Rattle.effect_model.proofs.Needed.{cell_escrow}

@@ -1,5 +1,5 @@
 -- Where no line touches anything behind some elements.
-use Rattle.std.proofs.Common.{◌≡◌, ℕ, zero, suc, ◌+◌, Bool, true, false, ◌&&◌, ◌||◌, if◌then◌else◌, List, [], ◌∷◌, ◌++◌, refl, sym, ap, ◌∙◌, arith, Option, Some, None, ◌-◌}
+use Rattle.std.proofs.Common.{◌≡◌, ℕ, Bool, true, false, ◌&&◌, ◌||◌, if◌then◌else◌, List, [], ◌∷◌, ◌++◌, refl, ap, ◌∙◌, arith, Some, None, ◌-◌}
 use Rattle.std.specs.List.{list_any, sum_by}
 use Rattle.std.specs.Str.{bytes_eq as equal_numbers}
 use Rattle.std.proofs.lemmas.List.Sums.{sum_by-cons}
@@ -10,7 +10,7 @@ use Rattle.spec_model.specs.declared.operation.Line.{Line}
 use Rattle.spec_model.specs.declared.operation.Line.TheVariants.{Set, Clear, Add, Sub}
 use Rattle.spec_model.specs.declared.operation.Term.{Term}
 use Rattle.spec_model.specs.declared.right.Right.TheVariants as right
-use Rattle.spec_model.specs.Truths.{terms_touch, term_has, line_sets, lines_set, inst_has, or_else}
+use Rattle.spec_model.specs.Truths.{terms_touch, term_has, line_sets, lines_set, inst_has}
 use Rattle.spec_model.specs.Changes.{line_adds, line_subtracts, elements_at}
 use Rattle.effect_model.specs.Touching.{terms_begin, begins_with, line_may_set, line_may_change}
 use Rattle.effect_model.specs.Effects.{with_truth, with_net}

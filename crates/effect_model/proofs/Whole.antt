@@ -1,15 +1,14 @@
 -- The universe is all that fits, each at one place.
-use Rattle.std.proofs.Common.{◌≡◌, ℕ, zero, suc, ◌+◌, ◌<◌, List, [], ◌∷◌, length, get_or, refl, sym, ap, ◌∙◌, subst, arith, Option, Some, None, take}
-use Rattle.std.specs.List.{slice_get, Contains, sum_by}
+use Rattle.std.proofs.Common.{◌≡◌, ℕ, List, [], sym, ap, ◌∙◌, subst, arith, Option, Some, None}
+use Rattle.std.specs.List.{slice_get, Contains}
 use Rattle.std.specs.Option.{option_map}
 use Rattle.std.proofs.lemmas.Option.{slice_get-map, slice_get_within, slice_get-get_or, get_or_from_slice_get}
 use Rattle.spec_model.specs.declared.spec.Spec.{Spec}
 use Rattle.spec_model.specs.declared.instance.Atom.{Atom}
 use Rattle.spec_model.specs.declared.instance.Cell.{Cell}
 use Rattle.spec_model.specs.Truths.{Within, size_of, pred_at, num_at, no_pred, no_num}
-use Rattle.spec_model.specs.Universe.{atoms, cells, sizes_of}
+use Rattle.spec_model.specs.Universe.{atoms, cells}
 use Rattle.effect_model.specs.declared.layout.Tuple.{Tuple}
-use Rattle.effect_model.specs.Tuples.{count_over, rank}
 use Rattle.effect_model.specs.Listed.{tuples_of}
 use Rattle.effect_model.specs.Places.{AtomFits, CellFits}
 use Rattle.effect_model.specs.Laws.{AtomsAreAll, CellsAreAll}

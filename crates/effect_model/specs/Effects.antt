@@ -1,5 +1,5 @@
 -- The effect of an instance: what it changes, in the order of the universe.
-use Rattle.std.specs.Prelude.{ℕ, ℤ, pos, ◌-ℤ◌, List, [], ◌∷◌, Bool, ◌==◌, if◌then◌else◌, Option, Some, None}
+use Rattle.std.specs.Prelude.{ℕ, pos, ◌-ℤ◌, List, [], ◌∷◌, Bool, ◌==◌, if◌then◌else◌, Option, Some, None}
 use Rattle.std.specs.List.{flat_map}
 use Rattle.spec_model.specs.declared.spec.Spec.{Spec}
 use Rattle.spec_model.specs.declared.instance.Atom.{Atom}

@@ -7,3 +7,9 @@ pub mod Touching
 pub mod Turns
 pub mod Amounts
 pub mod Pruning
+pub mod Blocks
+pub mod Contents
+pub mod Firsts
+pub mod Keys
+pub mod Fitting
+pub mod Laying

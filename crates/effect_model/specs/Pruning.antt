@@ -10,7 +10,7 @@ use Rattle.spec_model.specs.declared.operation.Line.{Line}
 use Rattle.spec_model.specs.declared.operation.Line.TheVariants.{Set, Clear, Add, Sub}
 use Rattle.spec_model.specs.declared.operation.Term.{Term}
 use Rattle.spec_model.specs.declared.spec.Spec.{Spec}
-use Rattle.spec_model.specs.Truths.{term_has, inst_has, values}
+use Rattle.spec_model.specs.Truths.{Within, term_has, inst_has, values}
 use Rattle.spec_model.specs.Universe.{tuples}
 use Rattle.effect_model.specs.Places.{AtomFits}
 
@@ -51,3 +51,7 @@ pub record ClauseStands (spec : Spec) (xs : List ℕ) (c : Clause) : Type 0 wher
 -- all tuples below these sizes, behind these elements
 abbrev pub tuples_behind : List ℕ → List ℕ → List (List ℕ)
 tuples_behind front sizes = map (λ xs. front ++ xs) (tuples sizes)
+
+-- so it is at all elements of these sizes behind the first ones
+abbrev pub StandsBehind : Spec → Clause → List ℕ → List ℕ → Type 0
+StandsBehind spec c front sizes = (xs : List ℕ) → Within (λ s. s) sizes xs → ClauseStands spec (front ++ xs) c

@@ -1,8 +1,8 @@
 -- The places of tuples among all tuples, in lexicographic order.
-use Rattle.std.specs.Prelude.{ℕ, ◌+◌, ◌*◌, ◌/◌, ◌%◌, ◌<◌, List, [], ◌∷◌, ◌++◌, map, length}
+use Rattle.std.specs.Prelude.{ℕ, ◌+◌, ◌*◌, ◌/◌, ◌%◌, ◌<◌, List, [], ◌∷◌, length}
 use Rattle.std.specs.List.{AllByRecursion}
 use Rattle.spec_model.specs.declared.spec.Spec.{Spec}
-use Rattle.spec_model.specs.Universe.{tuples, tuple_count, sizes_of}
+use Rattle.spec_model.specs.Universe.{tuple_count, sizes_of}
 
 -- sorts of the specification
 abbrev pub SortsKnown : Spec → List ℕ → Type 0

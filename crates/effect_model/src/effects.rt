@@ -12,7 +12,7 @@ ghost use Rattle.effect_model.specs.Touching.{AreSmall};
 ghost use Rattle.effect_model.specs.Turns.{atoms_set_by, cells_changed_by};
 
 use crate::change::{AtomChange, CellChange, Change};
-use crate::layout::size_of;
+use crate::layout::sort_sizes;
 use crate::touching::{lines_add, lines_of, lines_set, lines_subtract, may_change, may_set};
 use crate::walk::{Listing, walk};
 use ind_base::{Args, List, NoMemory};
@@ -95,17 +95,6 @@ impl Listing for Changing<'_> {
     }
 }
 
-/// How many elements each of these sorts has.
-pub(crate) fn sort_sizes(spec: &Spec, sorts: &Args) -> Args
-    ensures { result ≡ sizes_of spec.now sorts.now }
-{
-    let mut sizes = Args::new();
-    for sort in sorts.as_slice() {
-        sizes.push(size_of(spec, *sort));
-    }
-    sizes
-}
-
 /// The atoms that an instance sets, each with its new truth, in the order of the universe.
 fn changed_atoms(alloc: Global, spec: &Spec, inst: &Inst) -> Result<List<AtomChange>, NoMemory>
     requires well_formed { IsWellFormed spec.now }
@@ -120,7 +109,7 @@ fn changed_atoms(alloc: Global, spec: &Spec, inst: &Inst) -> Result<List<AtomCha
             lines,
             pred: at as u32,
         };
-        let sizes = sort_sizes(spec, &pred.sorts);
+        let sizes = sort_sizes(spec, pred.sorts.as_slice());
         walk(&setting, Args::new(), sizes.as_slice(), &mut out)?;
     }
     Ok(out)
@@ -144,7 +133,7 @@ pub(crate) fn changed_cells(
             lines,
             num: at as u32,
         };
-        let sizes = sort_sizes(spec, &num.sorts);
+        let sizes = sort_sizes(spec, num.sorts.as_slice());
         walk(&changing, Args::new(), sizes.as_slice(), &mut out)?;
     }
     Ok(out)

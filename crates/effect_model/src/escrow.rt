@@ -8,7 +8,7 @@ ghost use Rattle.effect_model.specs.Amounts.{IsFew};
 ghost use Rattle.effect_model.specs.Touching.{AreSmall};
 ghost use Rattle.effect_model.specs.Turns as turns;
 
-use crate::effects::sort_sizes;
+use crate::layout::sort_sizes;
 use crate::touching::{lines_add, lines_of, lines_subtract, may_change};
 use crate::walk::{Listing, walk};
 use ind_base::{Args, List, NoMemory};
@@ -91,7 +91,7 @@ pub fn escrow_needs(alloc: Global, spec: &Spec, inst: &Inst) -> Result<List<Need
             low: num.min.is_some(),
             high: num.max.is_some(),
         };
-        let sizes = sort_sizes(spec, &num.sorts);
+        let sizes = sort_sizes(spec, num.sorts.as_slice());
         walk(&needing, Args::new(), sizes.as_slice(), &mut out)?;
     }
     Ok(out)

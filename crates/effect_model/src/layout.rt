@@ -74,15 +74,28 @@ pub(crate) fn count_all<D: Declared>(spec: &Spec, declared: &[D]) -> usize
     count
 }
 
-/// The place of a tuple among all tuples over these sorts, in lexicographic order.
-pub(crate) fn tuple_place(spec: &Spec, sorts: &[u32], args: &[u32]) -> usize
-    requires within { Within (truths.size_of spec.now) sorts.now args.now }
-    requires small { tuple_count (sizes_of spec.now sorts.now) ≤ 65536 }
-    ensures { result ≡ rank (sizes_of spec.now sorts.now) args.now }
+/// How many elements each of these sorts has.
+pub(crate) fn sort_sizes(spec: &Spec, sorts: &[u32]) -> Args
+    requires { length sorts.now ≤ 4 }
+    ensures { result ≡ sizes_of spec.now sorts.now }
+{
+    let mut sizes = Args::new();
+    for sort in sorts {
+        sizes.push(size_of(spec, *sort));
+    }
+    sizes
+}
+
+/// The place of a tuple among all tuples below these sizes, in lexicographic order.
+pub(crate) fn tuple_place(sizes: &[u32], args: &[u32]) -> usize
+    requires within { Within (λ s. s) sizes.now args.now }
+    requires small { tuple_count sizes.now ≤ 65536 }
+    ensures value { result ≡ rank sizes.now args.now }
+    ensures within { result < tuple_count sizes.now }
 {
     let mut place = 0usize;
-    for (at, sort) in sorts.iter().enumerate() {
-        place = place * size_of(spec, *sort) as usize + args[at] as usize;
+    for (at, size) in sizes.iter().enumerate() {
+        place = place * *size as usize + args[at] as usize;
     }
     place
 }
@@ -119,11 +132,13 @@ pub(crate) fn place_of<D: Declared>(spec: &Spec, declared: &[D], tuple: &Tuple) 
     requires sizes { AllByRecursion SortFits spec.now.sorts }
     requires known { AllByRecursion (λ d. SortsKnown spec.now (D.sorts_of d)) declared.now }
     requires small { sum_by (count_over spec.now D.sorts_of) declared.now ≤ 65536 }
+    requires few { AllByRecursion (λ d. length (D.sorts_of d) ≤ 4) declared.now }
     requires fits { TupleFits spec.now D.sorts_of declared.now tuple.now }
     ensures { slice_get (tuples_of spec.now D.sorts_of 0 declared.now) result ≡ Some tuple.now }
 {
     let (before, rest) = declared.split_at(tuple.of as usize);
-    count_all(spec, before) + tuple_place(spec, rest[0].sorts(), tuple.args.as_slice())
+    let sizes = sort_sizes(spec, rest[0].sorts());
+    count_all(spec, before) + tuple_place(sizes.as_slice(), tuple.args.as_slice())
 }
 
 /// The tuple at a place among those of all that is declared.

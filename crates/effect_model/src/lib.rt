@@ -1,13 +1,19 @@
 //! Effects of operations: the places of atoms and cells, what an instance changes, and what it breaks.
 #![tactic(auto)]
 
+mod block;
 mod breaking;
 mod change;
 mod effects;
 mod escrow;
+mod fitting;
+mod keys;
 mod laws;
 mod layout;
+mod map;
 mod places;
+mod pruning;
+mod state;
 mod touching;
 mod truth;
 mod walk;
@@ -16,6 +22,10 @@ pub use breaking::breaks;
 pub use change::{AtomChange, CellChange, Change};
 pub use effects::effect;
 pub use escrow::escrow_needs;
+pub use fitting::inst_fits;
+pub use keys::key_of;
 pub use laws::{changes_are_small, universe_is_all};
+pub use map::Places;
 pub use places::{atom_at, atom_count, atom_place, cell_at, cell_count, cell_place};
+pub use state::{State, initial};
 pub use truth::Truth;

@@ -129,7 +129,7 @@ pub(crate) fn may_set(inst: &Inst, lines: &[Line], pred: u32, front: &[u32]) -> 
 }
 
 /// The first element of an argument.
-fn first_of(inst: &Inst, place: u32) -> u32
+pub(crate) fn first_of(inst: &Inst, place: u32) -> u32
     ensures { result ≡ option_map_or (λ s. s.lo) (slice_get inst.now.args place) 0 }
 {
     match inst.args.get(place as usize) {

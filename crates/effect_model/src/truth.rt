@@ -1,9 +1,8 @@
 //! The truths of atoms, before and after an effect.
 
-ghost use Rattle.std.specs.Prelude.{◌≡◌, ◌<◌, length};
+ghost use Rattle.std.specs.Prelude.{◌≡◌};
 ghost use Rattle.spec_model.specs.Truths.{Truths, inst_sets as set_to};
-ghost use Rattle.spec_model.specs.Breaks.{laid_over};
-ghost use Rattle.effect_model.specs.Places.{AtomFits, KnowsAll};
+ghost use Rattle.effect_model.specs.Places.{AtomFits};
 
 use crate::touching::{lines_of, lines_set};
 use spec_model::{Args, Atom, Inst, Spec};
@@ -32,9 +31,11 @@ pub(crate) struct Laid<'a, T> {
 }
 
 impl<T: Truth> Laid<'_, T> {
+    ghost use Rattle.effect_model.specs.Laying.{IsLaid, truths_after};
+
     /// What the instance sets an atom to.
     pub(crate) fn sets(&self, pred: u32, args: &[u32]) -> Option<bool>
-        requires { self.now.inst.now.op < length self.now.spec.now.ops }
+        requires { IsLaid T.knows self.now }
         ensures { result ≡ set_to self.now.spec.now self.now.inst.now pred args.now }
     {
         lines_set(self.inst, lines_of(self.spec, self.inst), pred, args)
@@ -42,10 +43,9 @@ impl<T: Truth> Laid<'_, T> {
 
     /// Whether an atom is true once the effect is laid over.
     pub(crate) fn truth(&self, atom: &Atom) -> bool
-        requires known { self.now.inst.now.op < length self.now.spec.now.ops }
-        requires knows { KnowsAll (T.knows self.now.state.now) self.now.spec.now }
+        requires laid { IsLaid T.knows self.now }
         requires fits { AtomFits self.now.spec.now atom.now }
-        ensures { result ≡ laid_over self.now.spec.now self.now.inst.now (T.truths self.now.state.now) atom.now.pred atom.now.args }
+        ensures { result ≡ truths_after T.truths self.now atom.now.pred atom.now.args }
     {
         match self.sets(atom.pred, atom.args.as_slice()) {
             Some(truth) => truth,

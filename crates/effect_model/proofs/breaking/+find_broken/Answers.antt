@@ -1,10 +1,11 @@
-use Rattle.std.proofs.Common.{◌≡◌, ◌∙◌, sym, ap, subst, List, ℕ, not, true, false, Bool, [], ◌++◌, ◌+◌, ◌≤◌, length, length-drop, arith, rules}
+use Rattle.std.proofs.Common.{◌≡◌, ◌∙◌, sym, ap, subst, List, ℕ, [], ◌++◌, ◌+◌, ◌≤◌, length, length-drop, arith, rules}
 use Rattle.std.proofs.lemmas.Bool.{eqb-false, eqb-true}
 use Rattle.std.proofs.lemmas.List.{append-nil, length_push, nil_from_length}
 use Rattle.spec_model.specs.Truths.{Within}
 use Rattle.spec_model.specs.Breaks.{breaks_at}
 use Rattle.effect_model.specs.Pruning.{ClauseStands}
-use Rattle.effect_model.proofs.Pruned.{none_broken, none_more, found_more, behind_longer}
+use Rattle.effect_model.proofs.Pruned.{none_broken}
+use Rattle.effect_model.proofs.Searched.{none_more, found_more, behind_longer}
 use Rattle.effect_model.proofs.breaking.+find_broken.Goals as goal
 
 pub returns-then-not-clause_may : goal.returns-then-not-clause_may
@@ -24,7 +25,7 @@ find_broken-found-requires g t c =
     let stands : (xs : List ℕ) → Within (λ s. s) c.split_at.result.1.now xs → ClauseStands c.args.laid.now.spec.now (c.push.new.self ++ xs) c.args.clause.now =
     behind_longer (λ xs. ClauseStands c.args.laid.now.spec.now xs c.args.clause.now) c.args.front c.args.sizes.now c.split_at.result.0.now c.split_at.result.1.now c.push.new.self c.loop-x.x 0 some c.split_at.ensures.front c.split_at.ensures.back c.loop-x-test.true c.push.ensures c.requires.stands in
     let few : length c.push.new.self + length c.split_at.result.1.now ≤ 4 = omega (arith, ap length c.push.ensures, length_push c.args.front c.loop-x.x, ap length c.split_at.ensures.back, length-drop 1 c.args.sizes.now, some, c.requires.few) in
-    λ κs lives. (search rules, (search rules, (c.requires.known, (c.requires.knows, (few, stands)))))
+    λ κs lives. (search rules, (search rules, (c.requires.laid, (few, stands))))
 
 pub returns-then-is_some : goal.returns-then-is_some
 returns-then-is_some g t c =

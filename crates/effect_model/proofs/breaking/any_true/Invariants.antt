@@ -1,8 +1,8 @@
 use Rattle.std.proofs.Common.{◌≡◌, take, false}
 use Rattle.std.specs.List.{list_any}
-use Rattle.spec_model.specs.Breaks.{laid_over}
+use Rattle.effect_model.specs.Laying.{truths_after}
 use Rattle.spec_model.specs.Truths.{literal_true}
 use Rattle.effect_model.proofs.breaking.any_true.Given as goal
 
 abbrev pub invariant-loop-literal : goal.invariant-loop-literal
-invariant-loop-literal g l = list_any (literal_true (laid_over l.laid.spec.now l.laid.inst.now (g.T.Truth.truths l.laid.state.now)) l.xs l.sign) (take l.literal-index l.literals) ≡ false
+invariant-loop-literal g l = list_any (literal_true (truths_after g.T.Truth.truths l.laid) l.xs l.sign) (take l.literal-index l.literals) ≡ false

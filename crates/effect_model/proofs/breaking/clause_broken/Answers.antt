@@ -1,11 +1,11 @@
-use Rattle.std.proofs.Common.{◌≡◌, ◌∙◌, ◌++◌, map, sym, ap, subst, List, ℕ, []}
+use Rattle.std.proofs.Common.{◌≡◌, ◌∙◌, map, ap, subst, List, ℕ}
 use Rattle.std.specs.List.{find}
 use Rattle.std.proofs.lemmas.List.{map-id}
 use Rattle.spec_model.specs.declared.clause.Var.{Var}
 use Rattle.spec_model.specs.Truths.{Within, var_sorts}
 use Rattle.spec_model.specs.Universe.{tuples, sizes_of}
 use Rattle.spec_model.specs.Breaks.{breaks_at}
-use Rattle.effect_model.specs.Pruning.{ClauseStands, tuples_behind}
+use Rattle.effect_model.specs.Pruning.{tuples_behind}
 use Rattle.effect_model.proofs.Sizes.{within_sorts}
 use Rattle.effect_model.proofs.Standing.{clause_stands}
 use Rattle.effect_model.proofs.breaking.clause_broken.Goals as goal

@@ -1,7 +1,7 @@
-use Rattle.std.proofs.Common.{◌≡◌, ◌≤◌, ◌*◌, ◌+◌, ◌<◌, length, drop, get_or, arith}
+use Rattle.std.proofs.Common.{◌*◌, ◌+◌, ◌<◌, length, drop, get_or, arith}
 use Rattle.spec_model.specs.Universe.{sizes_of, tuple_count}
 use Rattle.spec_model.specs.Truths as truths
-use Rattle.effect_model.proofs.Sizes.{all_at, all_left, count_more, count_some, factor_small}
+use Rattle.effect_model.proofs.Sizes.{all_left, count_more, count_some, factor_small}
 use Rattle.effect_model.proofs.layout.count_tuples.Goals as goal
 
 pub overflow_mul-count : goal.overflow_mul-count

@@ -1,7 +1,6 @@
-use Rattle.std.proofs.Common.{◌≡◌, ◌-◌, ◌+◌, ◌∙◌, ap, sym, subst, List, ℕ, Some, arith}
-use Rattle.spec_model.specs.Universe.{sizes_of, tuple_count}
-use Rattle.effect_model.specs.Tuples.{count_over, tuple_at}
-use Rattle.effect_model.proofs.Declarations.{IsFinding, tuple, found_here, found_behind}
+use Rattle.std.proofs.Common.{◌∙◌, ap, sym, List, ℕ, Some}
+use Rattle.effect_model.proofs.Declarations.{tuple}
+use Rattle.effect_model.proofs.Sought.{found_here, found_behind}
 use Rattle.effect_model.proofs.layout.tuple_at_place.Goals as goal
 
 pub returns-then-left-count : goal.returns-then-left-count

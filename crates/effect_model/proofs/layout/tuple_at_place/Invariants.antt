@@ -1,5 +1,4 @@
-use Rattle.std.proofs.Common.{drop}
-use Rattle.effect_model.proofs.Declarations.{IsFinding}
+use Rattle.effect_model.proofs.Sought.{IsFinding}
 use Rattle.effect_model.proofs.layout.tuple_at_place.Given as goal
 
 abbrev pub invariant-loop-at : goal.invariant-loop-at

@@ -1,4 +1,4 @@
-use Rattle.std.proofs.Common.{◌≡◌, ◌+◌, ◌∙◌, ap, length, subst, arith, ◌/◌, ◌%◌, drop, ℕ, List, sym}
+use Rattle.std.proofs.Common.{◌+◌, ◌∙◌, ap, length, subst, ◌/◌, ◌%◌, drop, ℕ, List, sym}
 use Rattle.spec_model.specs.Universe.{sizes_of}
 use Rattle.effect_model.specs.Tuples.{tuple_at}
 use Rattle.std.proofs.lemmas.List.{length_push}

@@ -1,5 +1,5 @@
 use Rattle.std.proofs.Common.{◌≡◌, drop, length}
-use Rattle.spec_model.specs.Universe.{tuple_count, sizes_of}
+use Rattle.spec_model.specs.Universe.{sizes_of}
 use Rattle.effect_model.specs.Tuples.{tuple_at}
 use Rattle.effect_model.proofs.Placing.{IsTaking}
 use Rattle.effect_model.proofs.layout.tuple_in.Given as goal

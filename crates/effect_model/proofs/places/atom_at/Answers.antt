@@ -1,4 +1,3 @@
-use Rattle.std.proofs.Common.{◌≡◌, ◌<◌, ◌∙◌, ap, sym, arith}
 use Rattle.effect_model.proofs.Listing.{length-atoms, get-atoms}
 use Rattle.effect_model.proofs.places.atom_at.Goals as goal
 

@@ -1,4 +1,3 @@
-use Rattle.std.proofs.Common.{◌≡◌, ◌<◌, ◌∙◌, ap, sym, arith}
 use Rattle.effect_model.proofs.Listing.{length-cells, get-cells}
 use Rattle.effect_model.proofs.places.cell_at.Goals as goal
 

@@ -1,4 +1,4 @@
-use Rattle.std.proofs.Common.{◌≡◌, ◌∙◌, sym}
+use Rattle.std.proofs.Common.{◌∙◌, sym}
 use Rattle.effect_model.proofs.Listing.{length-cells}
 use Rattle.effect_model.proofs.places.cell_count.Goals as goal
 

@@ -1,4 +1,3 @@
-use Rattle.std.proofs.Common.{◌≡◌, ◌<◌, ◌∙◌, sym}
 use Rattle.std.proofs.lemmas.Option.{slice_get_within}
 use Rattle.spec_model.specs.Universe.{cells}
 use Rattle.effect_model.proofs.Listing.{get-cells}

@@ -1,5 +1,4 @@
-use Rattle.std.proofs.Common.{◌≡◌, ◌≤◌, ◌+◌, arith, take, get_or, ap}
-use Rattle.std.specs.List.{sum_by}
+use Rattle.std.proofs.Common.{◌≡◌, arith, get_or, ap}
 use Rattle.std.proofs.lemmas.List.Sums.{sum_by_more_le, sum_by-take-le}
 use Rattle.spec_model.specs.Changes.{line_adds}
 use Rattle.effect_model.proofs.Sums.{adds_small}

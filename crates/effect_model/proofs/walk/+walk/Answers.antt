@@ -1,4 +1,4 @@
-use Rattle.std.proofs.Common.{◌≡◌, ◌∙◌, sym, ap, ◌++◌, List, ℕ}
+use Rattle.std.proofs.Common.{◌∙◌}
 use Rattle.effect_model.proofs.Walks.{listed_step, listed_skip}
 use Rattle.effect_model.proofs.walk.+walk.Goals as goal
 use Rattle.effect_model.proofs.walk.+walk.Goals.{then-goes_on+in_ok-walk, else-goes_on}

@@ -1,4 +1,4 @@
-use Rattle.std.proofs.Common.{◌≡◌, ◌∙◌, sym}
+use Rattle.std.proofs.Common.{◌∙◌, sym}
 use Rattle.effect_model.proofs.Untouched.{nothing_needed}
 use Rattle.effect_model.proofs.escrow.NeedingListing.goes_on.Goals as goal
 

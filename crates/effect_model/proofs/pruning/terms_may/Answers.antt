@@ -1,7 +1,7 @@
 use Rattle.std.proofs.Common.{◌∙◌}
 use Rattle.spec_model.specs.Truths.{inst_has}
 use Rattle.effect_model.proofs.Pruned.{short_vars}
-use Rattle.effect_model.proofs.breaking.terms_may.Goals as goal
+use Rattle.effect_model.proofs.pruning.terms_may.Goals as goal
 
 pub returns-in_default : goal.returns-in_default
 returns-in_default c =
