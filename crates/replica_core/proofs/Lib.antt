@@ -6,3 +6,5 @@ pub mod Wanted
 pub mod Lists
 pub mod Taken
 pub mod Needed
+pub mod Received
+pub mod Finished

@@ -97,7 +97,7 @@ replaced_fit : (P : Want → Type 0) (wants : List Want) (want : Want) → AllBy
 replaced_fit P [] want all h = tt
 replaced_fit P (w ∷ wants) want all h = (cond_both (is_on want.right w) want w P (λ same. h) (λ other. all.0), replaced_fit P wants want all.1 h)
 
-each_dropped : {X : Type 0} (P : X → Type 0) (k : ℕ) (xs : List X) → AllByRecursion P xs → AllByRecursion P (drop k xs)
+pub each_dropped : {X : Type 0} (P : X → Type 0) (k : ℕ) (xs : List X) → AllByRecursion P xs → AllByRecursion P (drop k xs)
 each_dropped P zero xs all = all
 each_dropped P (suc k) [] all = all
 each_dropped P (suc k) (x ∷ xs) all = each_dropped P k xs all.1

@@ -103,16 +103,16 @@ logged_append me [] cs p = refl
 logged_append me (b ∷ bs) cs p = logged_append me bs cs (logged me b p)
 
 -- setting a place twice
-set_again : (logs : Logs) (i : ℕ) (x y : List LogItem) → set (set logs i x) i y ≡ set logs i y
+pub set_again : (logs : Logs) (i : ℕ) (x y : List LogItem) → set (set logs i x) i y ≡ set logs i y
 set_again [] i x y = refl
 set_again (z ∷ logs) zero x y = refl
 set_again (z ∷ logs) (suc i) x y = ap (λ (l : Logs). z ∷ l) (set_again logs i x y)
 
 -- what is known after both is known but for the own log
-pub knows_both : (old mid new : Replica) → mid.me ≡ old.me → new.me ≡ mid.me → KnowsOwn (known_to old) mid → KnowsOwn (known_to mid) new → KnowsOwn (known_to old) new
-knows_both old mid new a b first second =
+pub knows_both : (known : Logs) (mid new : Replica) → new.me ≡ mid.me → KnowsOwn known mid → KnowsOwn (known_to mid) new → KnowsOwn known new
+knows_both known mid new b first second =
     let same : mid.me ≡ new.me = sym b in
-    second ∙ ap (λ (l : Logs). slice_set l new.me (own_log new)) (first ∙ ap (λ i. slice_set (known_to old) i (own_log mid)) same) ∙ set_again (known_to old) new.me (own_log mid) (own_log new)
+    second ∙ ap (λ (l : Logs). slice_set l new.me (own_log new)) (first ∙ ap (λ i. slice_set known i (own_log mid)) same) ∙ set_again known new.me (own_log mid) (own_log new)
 
 -- first these bodies and then those
 pub logged_both : (setup : Setup) (bs cs : List Body) (old mid new : Replica) → HasLoggedAll setup bs old mid → HasLoggedAll setup cs mid new → HasLoggedAll setup (bs ++ cs) old new
@@ -121,7 +121,7 @@ logged_both setup bs cs old mid new first second =
     record {
       own = subst (λ i. IsReplica setup i new) me second.own;
       stands = λ stamp sendings. second.stands stamp sendings ∙ ap (λ i. logged_all i cs (standing_of stamp sendings mid)) me ∙ ap (logged_all old.me cs) (first.stands stamp sendings) ∙ sym (logged_append old.me bs cs (standing_of stamp sendings old));
-      knows = knows_both old mid new me second.own.me_is first.knows second.knows;
+      knows = knows_both (known_to old) mid new second.own.me_is first.knows second.knows;
     }
 
 -- setting a place to what it has
@@ -242,13 +242,13 @@ answered_append setup logs me to [] w p = refl
 answered_append setup logs me to (v ∷ front) w p = answered_append setup logs me to front w (logged_all me (given (piece_for (holding setup logs me p (need_of v)) v.ask) to v.right) p)
 
 -- of other logs the replica knows what it knew before
-pub others_known : (old new : Replica) → KnowsOwn (known_to old) new → OthersSame new.me (known_to old) (known_to new)
-others_known old new knows j ne = sym (ap (λ (l : Logs). log_at l j) knows ∙ get_or-set_other (known_to old) new.me j (own_log new) [] ne)
+pub others_known : (known : Logs) (new : Replica) → KnowsOwn known new → OthersSame new.me known (known_to new)
+others_known known new knows j ne = sym (ap (λ (l : Logs). log_at l j) knows ∙ get_or-set_other known new.me j (own_log new) [] ne)
 
 -- what it holds by what was known is what it holds by what is known
-pub holds_known : (setup : Setup) (old new : Replica) (stamp : ℕ) (sendings : List Sending) → IsReplica setup new.me new → KnowsOwn (known_to old) new → holding setup (known_to old) new.me (standing_of stamp sendings new) ≡ holds_of setup new
-holds_known setup old new stamp sendings own knows =
-    held_agree setup (known_to old) (known_to new) new.me (standing_of stamp sendings new) (all_agree new.me (known_to old) (known_to new) (known_to new) (own_log new) (others_known old new knows) own.known)
+pub holds_known : (setup : Setup) (known : Logs) (new : Replica) (stamp : ℕ) (sendings : List Sending) → IsReplica setup new.me new → KnowsOwn known new → holding setup known new.me (standing_of stamp sendings new) ≡ holds_of setup new
+holds_known setup known new stamp sendings own knows =
+    held_agree setup known (known_to new) new.me (standing_of stamp sendings new) (all_agree new.me known (known_to new) (known_to new) (own_log new) (others_known known new knows) own.known)
 
 -- at most one piece is given to each want
 pub given_few : (o : Option Piece) (to : ℕ) (r : Right) → length (given o to r) ≤ 1
@@ -269,11 +269,11 @@ given_more setup to front w old mid new count n first second is =
       own = subst (λ i. IsReplica setup i new) me second.own;
       stands = λ stamp sendings.
           let q : Standing = standing_of stamp sendings mid in
-          let same : holding setup (known_to old) old.me q ≡ holds_of setup mid = ap (λ i. holding setup (known_to old) i q) (sym me) ∙ holds_known setup old mid stamp sendings (own_again setup old.me mid first.own) first.knows in
+          let same : holding setup (known_to old) old.me q ≡ holds_of setup mid = ap (λ i. holding setup (known_to old) i q) (sym me) ∙ holds_known setup (known_to old) mid stamp sendings (own_again setup old.me mid first.own) first.knows in
           second.stands stamp sendings ∙ ap (λ i. logged_all i bodies q) me
           ∙ ap (λ (f : Need → Held). logged_all old.me (given (piece_for (f (need_of w)) w.ask) to w.right) q) (sym same)
           ∙ ap (answered setup (known_to old) old.me to (w ∷ [])) (first.stands stamp sendings) ∙ sym (answered_append setup (known_to old) old.me to front w (standing_of stamp sendings old));
-      knows = knows_both old mid new me second.own.me_is first.knows second.knows;
+      knows = knows_both (known_to old) mid new second.own.me_is first.knows second.knows;
       counted = let long = longer_by setup bodies mid new second in omega (arith, long, first.counted, is);
       few = let one = given_few (piece_for (holds_of setup mid (need_of w)) w.ask) to w.right in omega (arith, one, is, first.few, length_push front w);
     }

@@ -19,7 +19,7 @@ use Rattle.spec_model.specs.declared.right.Held.{Held}
 use Rattle.run_model.specs.Rights.{body_gains, body_loses, even_share, first_count, held_of}
 use Rattle.run_model.specs.Worlds.{Standing, Sending, logged, logged_all}
 use Rattle.spec_model.specs.declared.right.Want.{Want}
-use Rattle.run_model.specs.Steps.{Requests, Takes, answered}
+use Rattle.run_model.specs.Steps.{AreAdmitted, Requests, Takes, accepts_of, answered, received}
 use Rattle.run_model.specs.Fitting.{AreInRow, ItemFits, WantFits}
 use Rattle.causal_store.specs.Stores.{IsStore, cut_in, logs_in}
 use Rattle.replica_core.specs.Tables.{AreHeld}
@@ -133,6 +133,18 @@ pub record HasLearned (spec : Spec) (items : List LogItem) (old new : Replica) :
   pub kept : new ≡ record old { store = new.store }
   pub store : IsStore spec (length (known_to old)) new.store
   pub logs : (from : ℕ) → AreInRow from (length (log_at (known_to old) from)) items → from < length (known_to old) → known_to new ≡ with_items from items (known_to old)
+
+-- what may be applied of a message was, and what it gives accepted: so many items, so many pieces
+pub record HasReceived (setup : Setup) (message : Message) (old : Replica) (count accepted : ℕ) (new : Replica) : Type 0 where
+  pub own : IsReplica setup old.me new
+  pub applied : List LogItem
+  pub counted : count ≡ length applied
+  pub admitted : AreAdmitted (cut_in old.store) message.items applied
+  pub accepts : accepted ≡ length (accepts_of old.me applied)
+  pub few : accepted ≤ 16
+  pub grown : length (own_log new) ≡ length (own_log old) + accepted
+  pub stands : (stamp : ℕ) (sendings : List Sending) → standing_of stamp sendings new ≡ received old.me message applied (standing_of stamp sendings old)
+  pub knows : KnowsOwn (with_items message.from applied (known_to old)) new
 
 -- a message was taken so
 pub record HasTaken (setup : Setup) (message : Message) (old : Replica) (outcome : Outcome) (new : Replica) : Type 0 where

@@ -35,7 +35,7 @@ fn joined(a: &Cut, b: &Cut) -> Cut
 }
 
 impl Replica {
-    ghost use Rattle.replica_core.specs.Replicas.{CanLearn, HasGiven, HasLearned, HasLogged, HasLoggedAll, HasRoom, IsApplied, IsReplica, holds_of, known_to};
+    ghost use Rattle.replica_core.specs.Replicas.{CanLearn, HasGiven, HasLearned, HasLogged, HasLoggedAll, HasRoom, IsApplied, IsReplica, HasReceived, HasTaken, holds_of, known_to};
 
     /// Keeps the greatest cut that was told.
     fn hear(&mut self, message: &Message)
@@ -235,5 +235,43 @@ impl Replica {
             count += self.answer_want(setup, to, want)?;
         }
         Ok(count)
+    }
+
+    /// Hears what the sender has seen, applies the items whose past was seen, and accepts what they
+    /// give. How many were applied, and how many accepted.
+    fn receive(&mut self, setup: &Setup, message: &Message) -> Result<(u32, u32), NoMemory>
+        requires well_formed { IsWellFormed setup.now.spec }
+        requires own { IsReplica setup.now self.old.me self.old }
+        requires fits { MessageFits setup.now.spec setup.now.replicas self.old.me message.now }
+        requires room { HasRoom 16 self.old }
+        ensures { IfOk result (λ n. HasReceived setup.now message.now self.old n.0 n.1 self.new) }
+    {
+        self.hear(message);
+        let admitted = admit(&self.store.cut(), message.items.as_slice());
+        let (_, unseen) = message.items.as_slice().split_at(admitted.skip as usize);
+        let (items, _) = unseen.split_at(admitted.apply as usize);
+        self.learn(&setup.spec, items)?;
+        let accepted = self.accept_all(setup, items)?;
+        Ok((admitted.apply, accepted))
+    }
+
+    /// Takes a message: applies what it may of its items, accepts what they give, drops the wants
+    /// that are met, and gives to the sender of what it wants.
+    pub fn take(&mut self, alloc: Global, setup: &Setup, message: &Message) -> Result<Outcome, NoMemory>
+        requires well_formed { IsWellFormed setup.now.spec }
+        requires own { IsReplica setup.now self.old.me self.old }
+        requires fits { MessageFits setup.now.spec setup.now.replicas self.old.me message.now }
+        requires room { HasRoom 24 self.old }
+        ensures { IfOk result (λ outcome. HasTaken setup.now message.now self.old outcome self.new) }
+    {
+        let (applied, accepted) = self.receive(setup, message)?;
+        self.wants = self.unmet(alloc, setup)?;
+        let gave = self.answer_all(setup, message.from, message.wants.as_slice())?;
+        Ok(Outcome::Took {
+            number: message.number,
+            applied,
+            accepted,
+            gave,
+        })
     }
 }

@@ -1,0 +1,384 @@
+-- What a replica applies of a message.
+use Rattle.std.proofs.Common.{◌≡◌, ◌≢◌, inl, inr, ℕ, zero, suc, ◌+◌, ◌-◌, ◌<◌, ◌≤◌, Bool, true, false, List, [], ◌∷◌, ◌++◌, length, get_or, map, set, take, drop, refl, sym, ap, subst, ◌∙◌, arith, length-set, ltb-false}
+use Rattle.std.specs.Prelude.{slice_get, slice_index, slice_index_or, slice_set, Some, All, not, nat_lt, sum_by}
+use Rattle.std.specs.List.{AllByRecursion}
+use Rattle.std.proofs.lemmas.List.{get_or-set_same, get_or-set_other, map-set, length-map}
+use Rattle.std.proofs.lemmas.Bool.{cases_Bool, cases_eq}
+use Rattle.spec_model.specs.declared.plan.Setup.{Setup}
+use Rattle.spec_model.specs.declared.spec.Spec.{Spec}
+use Rattle.spec_model.specs.declared.right.Right.{Right}
+use Rattle.spec_model.specs.declared.right.Right.TheVariants as right
+use Rattle.spec_model.specs.declared.right.Want.{Want}
+use Rattle.spec_model.specs.declared.log.Body.{Body}
+use Rattle.spec_model.specs.declared.log.Body.TheVariants as body
+use Rattle.spec_model.specs.declared.log.LogItem.{LogItem}
+use Rattle.spec_model.specs.Universe.{cells}
+use Rattle.run_model.specs.declared.message.Message.{Message}
+use Rattle.run_model.specs.Logs.{Logs, item_at, log_at, with_item}
+use Rattle.run_model.specs.Rights.{body_gains, body_loses}
+use Rattle.run_model.specs.Worlds.{Standing, Sending, joined, logged_all}
+use Rattle.run_model.specs.Steps.{AreAdmitted, accept_of, accepts_of, cut_after, received, unseen}
+use Rattle.run_model.specs.Fitting.{AreInRow, ItemFits, MessageFits, WantFits}
+use Rattle.run_model.proofs.Lists.{each_append, each_at, each_filter, each_take, each_weaker, get_behind, get_front}
+use Rattle.run_model.proofs.Own.{applied_one, own_at, own_drop, own_front}
+use Rattle.run_model.proofs.Agreed.{Agrees, AllAgree, gains_all_agree}
+use Rattle.causal_store.specs.Stores.{IsStore, cut_in, logs_in}
+use Rattle.causal_delivery.specs.Rows.{AreOfOne}
+use Rattle.replica_core.specs.Tables.{AreHeld}
+use Rattle.replica_core.specs.Replicas.{AreCovered, CanLearn, HasLearned, HasLoggedAll, HasReceived, IsApplied, IsKnown, IsReplica, known_to, own_log, standing_of, with_items}
+use Rattle.replica_core.specs.declared.replica.Replica.{Replica}
+use Rattle.replica_core.proofs.Logged.{count_at}
+use Rattle.replica_core.proofs.Needed.{each_dropped, heard_replica}
+use Rattle.replica_core.proofs.Taken.{accept_few, longer_by}
+
+-- ---- rows of items
+
+-- what stands in a row from one place stands in a row from the same place, by another name
+row_from : (from a b : ℕ) (items : List LogItem) → a ≡ b → AreInRow from a items → AreInRow from b items
+row_from from a b items same = subst (λ n. AreInRow from n items) same
+
+-- the items in front of a row are a row
+row_taken : (from at n : ℕ) (items : List LogItem) → AreInRow from at items → AreInRow from at (take n items)
+row_taken from at zero items row = tt
+row_taken from at (suc n) [] row = tt
+row_taken from at (suc n) (x ∷ items) row = (row.0, row.1, row.2, row_taken from (at + 1) n items row.3)
+
+-- where a first item was not seen, and its past was, its row goes on where the cut ends
+row_goes_on : (from at : ℕ) (cut : List ℕ) (items applied : List LogItem) → AreInRow from at applied → AreAdmitted cut items applied → AreInRow from (slice_index cut from) applied
+row_goes_on from at cut items [] row admitted = tt
+row_goes_on from at cut items (x ∷ applied) row admitted =
+    let new : not (nat_lt x.index (slice_index cut x.origin)) ≡ true =
+    (subst (AllByRecursion (λ (i : LogItem). Unit {0} × (not (nat_lt i.index (slice_index cut i.origin)) ≡ true))) admitted.prefix (each_filter (λ (i : LogItem). Unit {0}) (λ (i : LogItem). not (nat_lt i.index (slice_index cut i.origin))) items (any items))).0.1 in
+    let here : slice_index cut x.origin ≡ slice_index cut from = ap (slice_index cut) row.0 in
+    let behind : slice_index cut x.origin ≤ x.index = not_less x.index (slice_index cut x.origin) new in
+    let seen : slice_index x.deps from ≤ slice_index cut from = admitted.ready.0 from in
+    row_from from at (slice_index cut from) (x ∷ applied) (omega (arith, here, behind, seen, row.1, row.2)) row
+  where
+    any : (items : List LogItem) → AllByRecursion (λ (i : LogItem). Unit {0}) items
+    any [] = tt
+    any (i ∷ items) = (tt, any items)
+    not_less : (a b : ℕ) → not (nat_lt a b) ≡ true → b ≤ a
+    not_less a b h = elim (cases_Bool (nat_lt a b)) [
+      | inl less ↦ absurd (let wrong : false ≡ true = sym (ap not less) ∙ h in cc)
+      | inr not_so ↦ ltb-false a b not_so
+    ]
+
+-- the cut once a row of items is applied
+cut_applied : (from c : ℕ) (cut : List ℕ) (applied : List LogItem) → AreInRow from c applied → slice_index cut from ≡ c → from < length cut → cut_after cut applied ≡ slice_set cut from (c + length applied)
+cut_applied from c cut [] row is lt = sym (set_to (cut) from (c + 0) (omega (arith, is)))
+  where
+    set_to : (xs : List ℕ) (i x : ℕ) → x ≡ slice_index xs i → set xs i x ≡ xs
+    set_to [] i x is = refl
+    set_to (y ∷ xs) zero x is = ap (λ z. z ∷ xs) is
+    set_to (y ∷ xs) (suc i) x is = ap (λ (l : List ℕ). y ∷ l) (set_to xs i x is)
+cut_applied from c cut (x ∷ applied) row is lt =
+    let one : with_item cut x ≡ set cut from (c + 1) = applied_one from c cut x row.0 row.1 in
+    let there : slice_index (set cut from (c + 1)) from ≡ c + 1 = get_or-set_same cut from (c + 1) 0 lt in
+    ap (λ (k : List ℕ). cut_after k applied) one ∙ cut_applied from (c + 1) (set cut from (c + 1)) applied row.3 there (omega (arith, lt, length-set cut from (c + 1))) ∙ set_twice cut from (c + 1) ((c + 1) + length applied)
+    ∙ ap (set cut from) (let more : (c + 1) + length applied ≡ c + suc (length applied) = omega arith in more)
+  where
+    set_twice : (xs : List ℕ) (i x y : ℕ) → set (set xs i x) i y ≡ set xs i y
+    set_twice [] i x y = refl
+    set_twice (z ∷ xs) zero x y = refl
+    set_twice (z ∷ xs) (suc i) x y = ap (λ (l : List ℕ). z ∷ l) (set_twice xs i x y)
+
+-- ---- what may be applied of a message
+
+-- the items of a message are of one log
+pub items_of_one : (spec : Spec) (replicas me : ℕ) (message : Message) (n : ℕ) → n ≡ replicas → MessageFits spec replicas me message → AreOfOne n message.items
+items_of_one spec replicas me message n same fits = subst (λ k. AreOfOne k message.items) (sym same) (record {
+  origin = message.from;
+  first = fits.first;
+  place = fits.sender;
+  row = fits.row;
+  pasts = each_weaker (ItemFits spec replicas) (λ (i : LogItem). length i.deps ≡ replicas) (λ i h. h.past) message.items fits.items;
+})
+
+-- of each log the cut of a store counts the items
+pub cut_counts : (spec : Spec) (replicas : ℕ) (r : Replica) (i : ℕ) → IsStore spec replicas r.store → slice_index (cut_in r.store) i ≡ length (log_at (known_to r) i)
+cut_counts spec replicas r i store = ap (λ (c : List ℕ). slice_index c i) store.counts ∙ count_at (known_to r) i
+
+pub cut_long : (spec : Spec) (replicas : ℕ) (r : Replica) → IsStore spec replicas r.store → length (cut_in r.store) ≡ replicas
+cut_long spec replicas r store = ap length store.counts ∙ length-map (known_to r) (λ (l : List LogItem). length l) ∙ store.whole
+
+-- a part of a message's items that may be applied
+pub record IsPart (setup : Setup) (message : Message) (cut : List ℕ) (applied : List LogItem) : Type 0 where
+  pub row : AreInRow message.from (slice_index cut message.from) applied
+  pub fits : AllByRecursion (ItemFits setup.spec setup.replicas) applied
+  pub few : length applied ≤ 16
+
+pub part_of : (setup : Setup) (me skip apply : ℕ) (message : Message) (cut : List ℕ) → MessageFits setup.spec setup.replicas me message → AreAdmitted cut message.items (take apply (drop skip message.items)) → skip + apply ≤ length message.items
+    → IsPart setup message cut (take apply (drop skip message.items))
+part_of setup me skip apply message cut fits admitted within =
+    let left : List LogItem = drop skip message.items in record {
+      row = row_goes_on message.from (fits.first + skip) cut message.items (take apply left) (row_taken message.from (fits.first + skip) apply left (own_drop message.from fits.first skip message.items (fits.first + skip) refl fits.row)) admitted;
+      fits = each_take (ItemFits setup.spec setup.replicas) apply left (each_dropped (ItemFits setup.spec setup.replicas) skip message.items fits.items);
+      few = let short = taken_short apply left in omega (arith, short, within, fits.few_items);
+    }
+  where
+    taken_short : (n : ℕ) (xs : List LogItem) → length (take n xs) ≤ n
+    taken_short zero xs = omega arith
+    taken_short (suc n) [] = omega arith
+    taken_short (suc n) (x ∷ xs) = let rest = taken_short n xs in omega (arith, rest)
+
+-- the replica may learn it
+pub can_learn : (setup : Setup) (me : ℕ) (r : Replica) (message : Message) (applied : List LogItem) → IsReplica setup me r → message.from < setup.replicas → IsPart setup message (cut_in r.store) applied → CanLearn setup.spec r applied
+can_learn setup me r message applied own sender part = record {
+  from = message.from;
+  store = subst (λ n. IsStore setup.spec n r.store) (sym own.store.whole) own.store;
+  place = omega (arith, sender, own.store.whole);
+  row = row_from message.from (slice_index (cut_in r.store) message.from) (length (log_at (known_to r) message.from)) applied (cut_counts setup.spec setup.replicas r message.from own.store) part.row;
+  fits = subst (λ n. AllByRecursion (ItemFits setup.spec n) applied) (sym own.store.whole) part.fits;
+}
+
+-- ---- the replica that learned
+
+-- an item that is known is known where more is
+item_stays : (from at origin : ℕ) (known : Logs) (applied : List LogItem) → at < length (log_at known origin) → item_at known origin at ≡ item_at (with_items from applied known) origin at
+item_stays from at origin known applied lt =
+    elim (cases_eq origin from) [
+      | inl same ↦
+          let there : from < length known = inside known from at (omega (arith, lt, ap (λ i. length (log_at known i)) same)) in
+          ap (λ i. item_at known i at) same ∙ front (log_at known from) applied at (omega (arith, lt, ap (λ i. length (log_at known i)) same)) ∙ sym (ap (λ (l : List LogItem). slice_get l at) (get_or-set_same known from (log_at known from ++ applied) [] there)) ∙ sym (ap (λ i. item_at (with_items from applied known) i at) same)
+      | inr other ↦ sym (ap (λ (l : List LogItem). slice_get l at) (get_or-set_other known from origin (log_at known from ++ applied) [] other))
+    ]
+  where
+    inside : (logs : Logs) (i k : ℕ) → k < length (log_at logs i) → i < length logs
+    inside [] i k h = absurd (omega (arith, h))
+    inside (x ∷ logs) zero k h = omega arith
+    inside (x ∷ logs) (suc i) k h = let rest = inside logs i k h in omega (arith, rest)
+    front : (xs ys : List LogItem) (k : ℕ) → k < length xs → slice_get xs k ≡ slice_get (xs ++ ys) k
+    front [] ys k h = absurd (omega (arith, h))
+    front (x ∷ xs) ys zero h = refl
+    front (x ∷ xs) ys (suc k) h = front xs ys k (omega (arith, h))
+
+log_longer : (from origin : ℕ) (known : Logs) (applied : List LogItem) → length (log_at known origin) ≤ length (log_at (with_items from applied known) origin)
+log_longer from origin known applied = longer known from origin applied
+  where
+    append_longer : (xs ys : List LogItem) → length xs ≤ length (xs ++ ys)
+    append_longer [] ys = omega arith
+    append_longer (x ∷ xs) ys = let rest = append_longer xs ys in omega (arith, rest)
+    set_longer : (logs : Logs) (i j : ℕ) (log : List LogItem) → length (log_at logs i) ≤ length log → length (log_at logs j) ≤ length (log_at (set logs i log) j)
+    set_longer [] i j log h = omega arith
+    set_longer (x ∷ logs) zero zero log h = h
+    set_longer (x ∷ logs) zero (suc j) log h = omega arith
+    set_longer (x ∷ logs) (suc i) zero log h = omega arith
+    set_longer (x ∷ logs) (suc i) (suc j) log h = set_longer logs i j log h
+    longer : (logs : Logs) (i j : ℕ) (more : List LogItem) → length (log_at logs j) ≤ length (log_at (set logs i (log_at logs i ++ more)) j)
+    longer logs i j more = set_longer logs i j (log_at logs i ++ more) (append_longer (log_at logs i) more)
+
+agrees_stays : (me from : ℕ) (known : Logs) (applied : List LogItem) (b : Body) → IsKnown known me b → Agrees known (with_items from applied known) b
+agrees_stays me from known applied (body.Act inst) h = tt
+agrees_stays me from known applied (body.Out to r piece) h = tt
+agrees_stays me from known applied (body.Accept origin at) h = item_stays from at origin known applied h.1
+
+known_stays : (me from : ℕ) (known : Logs) (applied : List LogItem) (b : Body) → IsKnown known me b → IsKnown (with_items from applied known) me b
+known_stays me from known applied (body.Act inst) h = tt
+known_stays me from known applied (body.Out to r piece) h = tt
+known_stays me from known applied (body.Accept origin at) h = (h.0, (let more = log_longer from origin known applied in omega (arith, more, h.1)))
+
+-- a replica that learned items of another log
+pub record Learns (setup : Setup) (me from : ℕ) (applied : List LogItem) (old new : Replica) : Type 0 where
+  pub own : IsReplica setup me old
+  pub other : from ≢ me
+  pub kept : new ≡ record old { store = new.store }
+  pub store : IsStore setup.spec setup.replicas new.store
+  pub logs : known_to new ≡ with_items from applied (known_to old)
+
+pub learned_replica : (setup : Setup) (me from : ℕ) (applied : List LogItem) (old new : Replica) → Learns setup me from applied old new → IsReplica setup me new
+learned_replica setup me from applied old new h =
+    let known : Logs = known_to old in
+    let own : List LogItem = log_at known me in
+    let mine : me ≢ from = λ same. h.other (sym same) in
+    let same_log : log_at (known_to new) me ≡ own = ap (λ (l : Logs). log_at l me) h.logs ∙ get_or-set_other known from me (log_at known from ++ applied) [] mine in
+    let agree : AllAgree known (known_to new) own = subst (λ (l : Logs). AllAgree known l own) (sym h.logs) (each_weaker (λ (i : LogItem). IsKnown known me i.body) (λ (i : LogItem). Agrees known (with_items from applied known) i.body) (λ i k. agrees_stays me from known applied i.body k) own h.own.known) in
+    let gains : (r : Right) → sum_by (λ i. body_gains setup.spec known r i.body) own ≡ sum_by (λ i. body_gains setup.spec (known_to new) r i.body) own = λ r. gains_all_agree setup.spec known (known_to new) r own agree in
+    let lows : new.lows ≡ old.lows = ap (λ (r : Replica). r.lows) h.kept in
+    record {
+      me_is = ap (λ (r : Replica). r.me) h.kept ∙ h.own.me_is;
+      within = h.own.within;
+      store = h.store;
+      own = subst (AreInRow me 0) (sym same_log) h.own.own;
+      known = subst (AllByRecursion (λ (i : LogItem). IsKnown (known_to new) me i.body)) (sym same_log) (subst (λ (l : Logs). AllByRecursion (λ (i : LogItem). IsKnown l me i.body) own) (sym h.logs)
+          (each_weaker (λ (i : LogItem). IsKnown known me i.body) (λ (i : LogItem). IsKnown (with_items from applied known) me i.body) (λ i k. known_stays me from known applied i.body k) own h.own.known));
+      covered = subst (AreCovered setup (known_to new) me) (sym same_log) (λ cell among. let was = h.own.covered cell among in let g = gains (right.Low cell) in omega (arith, was, g));
+      holds = subst (λ (l : List LogItem). AreHeld setup (known_to new) me l new.lows) (sym same_log) (record {
+        whole = ap length lows ∙ h.own.holds.whole;
+        held = λ i cell is. let was = h.own.holds.held i cell is in let g = gains (right.Low cell) in let read : slice_index new.lows i ≡ slice_index old.lows i = ap (λ (xs : List ℕ). slice_index xs i) lows in omega (arith, was, g, read);
+        small = λ i. let up = h.own.holds.small i in let read : slice_index new.lows i ≡ slice_index old.lows i = ap (λ (xs : List ℕ). slice_index xs i) lows in omega (arith, up, read);
+      });
+      wants = subst (λ (r : Replica). AllByRecursion (WantFits setup.spec) r.wants) (sym h.kept) h.own.wants;
+      few_wants = subst (λ (r : Replica). length r.wants ≤ 8) (sym h.kept) h.own.few_wants;
+      told = subst (λ (r : Replica). length r.told ≡ setup.replicas) (sym h.kept) h.own.told;
+      told_each = subst (λ (r : Replica). AllByRecursion (λ (c : List ℕ). length c ≡ setup.replicas) r.told) (sym h.kept) h.own.told_each;
+    }
+
+-- its cut counts the new items
+pub learned_cut : (setup : Setup) (message : Message) (me : ℕ) (applied : List LogItem) (old new : Replica) → Learns setup me message.from applied old new → message.from < setup.replicas → IsPart setup message (cut_in old.store) applied → cut_in new.store ≡ cut_after (cut_in old.store) applied
+learned_cut setup message me applied old new h sender part =
+    let known : Logs = known_to old in
+    let cut : List ℕ = cut_in old.store in
+    let from : ℕ = message.from in
+    let c : ℕ = slice_index cut from in
+    let long : length cut ≡ setup.replicas = cut_long setup.spec setup.replicas old h.own.store in
+    let more : length (log_at known from ++ applied) ≡ c + length applied = omega (arith, append_long (log_at known from) applied, cut_counts setup.spec setup.replicas old from h.own.store) in
+    h.store.counts ∙ ap (map (λ (l : List LogItem). length l)) h.logs ∙ map-set (λ (l : List LogItem). length l) known from (log_at known from ++ applied)
+    ∙ ap (λ (k : List ℕ). slice_set k from (length (log_at known from ++ applied))) (sym h.own.store.counts) ∙ ap (slice_set cut from) more
+    ∙ sym (cut_applied from c cut applied part.row refl (omega (arith, sender, long)))
+  where
+    append_long : (xs ys : List LogItem) → length (xs ++ ys) ≡ length xs + length ys
+    append_long [] ys = omega arith
+    append_long (x ∷ xs) ys = let rest = append_long xs ys in omega (arith, rest)
+
+-- each of them is applied
+pub all_applied : (setup : Setup) (message : Message) (me : ℕ) (applied : List LogItem) (old new : Replica) → Learns setup me message.from applied old new → message.from < setup.replicas → IsPart setup message (cut_in old.store) applied → All (IsApplied new) applied
+all_applied setup message me applied old new h sender part k d lt =
+    let x : LogItem = get_or applied k d in
+    let there : slice_get applied k ≡ Some x = get_there applied k d lt in
+    let place = own_at message.from (slice_index (cut_in old.store) message.from) applied k x part.row there in
+    let mine : new.me ≡ me = ap (λ (r : Replica). r.me) h.kept ∙ h.own.me_is in
+    let log : List LogItem = log_at (known_to old) message.from in
+    let c : slice_index (cut_in old.store) message.from ≡ length log = cut_counts setup.spec setup.replicas old message.from h.own.store in
+    let at : x.index ≡ length log + k = omega (arith, place.1, c) in
+    let lt_known : message.from < length (known_to old) = omega (arith, sender, h.own.store.whole) in
+    (λ same. h.other (sym place.0 ∙ same ∙ mine),
+      ap (λ (l : Logs). item_at l x.origin x.index) h.logs ∙ ap (λ o. item_at (with_items message.from applied (known_to old)) o x.index) place.0
+      ∙ ap (λ (l : List LogItem). slice_get l x.index) (get_or-set_same (known_to old) message.from (log ++ applied) [] lt_known) ∙ ap (slice_get (log ++ applied)) at ∙ get_behind log applied k ∙ there)
+  where
+    get_there : (xs : List LogItem) (k : ℕ) (d : LogItem) → k < length xs → slice_get xs k ≡ Some (get_or xs k d)
+    get_there [] k d lt = absurd (omega (arith, lt))
+    get_there (x ∷ xs) zero d lt = refl
+    get_there (x ∷ xs) (suc k) d lt = get_there xs k d (omega (arith, lt))
+
+-- ---- what was received
+
+joined_whole : (xs ys : List ℕ) (n : ℕ) → length xs ≡ n → length ys ≡ n → length (joined xs ys) ≡ n
+joined_whole [] ys n a b = a
+joined_whole (x ∷ xs) [] n a b = absurd (omega (arith, a, b))
+joined_whole (x ∷ xs) (y ∷ ys) n a b = let rest = joined_whole xs ys (n - 1) (omega (arith, a)) (omega (arith, b)) in omega (arith, rest, a)
+
+each_set : {X : Type 0} (P : X → Type 0) (xs : List X) (i : ℕ) (x : X) → AllByRecursion P xs → P x → AllByRecursion P (set xs i x)
+each_set P [] i x all h = tt
+each_set P (y ∷ xs) zero x all h = (h, all.1)
+each_set P (y ∷ xs) (suc i) x all h = (all.0, each_set P xs i x all.1 h)
+
+each_of_all : (P : List ℕ → Type 0) (xs : List (List ℕ)) (i : ℕ) → i < length xs → AllByRecursion P xs → P (slice_index_or xs i [])
+each_of_all P [] i lt all = absurd (omega (arith, lt))
+each_of_all P (x ∷ xs) zero lt all = all.0
+each_of_all P (x ∷ xs) (suc i) lt all = each_of_all P xs i (omega (arith, lt)) all.1
+
+-- what the sender has seen is told
+abbrev pub told_of : Message → Replica → List (List ℕ)
+told_of message r = slice_set r.told message.from (joined (slice_index_or r.told message.from []) message.cut)
+
+-- a message was heard, and these of its items may be applied
+pub record Admits (setup : Setup) (me : ℕ) (message : Message) (old mid : Replica) (skip apply : ℕ) (cut : List ℕ) (all items : List LogItem) : Type 0 where
+  pub own : IsReplica setup me old
+  pub fits : MessageFits setup.spec setup.replicas me message
+  pub heard : mid ≡ record old { told = told_of message old }
+  pub cut_is : cut ≡ cut_in mid.store
+  pub all_are : all ≡ message.items
+  pub admitted : AreAdmitted cut all (take apply (drop skip all))
+  pub within : skip + apply ≤ length all
+  pub items_are : items ≡ take apply (drop skip message.items)
+
+pub mid_own : (setup : Setup) (me : ℕ) (message : Message) (old mid : Replica) (skip apply : ℕ) (cut : List ℕ) (all items : List LogItem) → Admits setup me message old mid skip apply cut all items → IsReplica setup me mid
+mid_own setup me message old mid skip apply cut all items h =
+    let lt : message.from < length old.told = omega (arith, h.own.told, h.fits.sender) in
+    let here : length (slice_index_or old.told message.from []) ≡ setup.replicas = each_of_all (λ (c : List ℕ). length c ≡ setup.replicas) old.told message.from lt h.own.told_each in
+    heard_replica setup me old mid h.own (record {
+      wants = old.wants;
+      told = told_of message old;
+      is = h.heard;
+      fit = h.own.wants;
+      few = h.own.few_wants;
+      whole = length-set old.told message.from (joined (slice_index_or old.told message.from []) message.cut) ∙ h.own.told;
+      each = each_set (λ (c : List ℕ). length c ≡ setup.replicas) old.told message.from (joined (slice_index_or old.told message.from []) message.cut) h.own.told_each (joined_whole (slice_index_or old.told message.from []) message.cut setup.replicas here h.fits.cut);
+    })
+
+pub mid_admitted : (setup : Setup) (me : ℕ) (message : Message) (old mid : Replica) (skip apply : ℕ) (cut : List ℕ) (all items : List LogItem) → Admits setup me message old mid skip apply cut all items → AreAdmitted (cut_in mid.store) message.items items
+mid_admitted setup me message old mid skip apply cut all items h =
+    let there : AreAdmitted (cut_in mid.store) all (take apply (drop skip all)) = subst (λ (c : List ℕ). AreAdmitted c all (take apply (drop skip all))) h.cut_is h.admitted in
+    let these : AreAdmitted (cut_in mid.store) message.items (take apply (drop skip message.items)) = subst (λ (l : List LogItem). AreAdmitted (cut_in mid.store) l (take apply (drop skip l))) h.all_are there in
+    subst (AreAdmitted (cut_in mid.store) message.items) (sym h.items_are) these
+
+pub mid_part : (setup : Setup) (me : ℕ) (message : Message) (old mid : Replica) (skip apply : ℕ) (cut : List ℕ) (all items : List LogItem) → Admits setup me message old mid skip apply cut all items → IsPart setup message (cut_in mid.store) items
+mid_part setup me message old mid skip apply cut all items h =
+    let these : AreAdmitted (cut_in mid.store) message.items (take apply (drop skip message.items)) = subst (AreAdmitted (cut_in mid.store) message.items) h.items_are (mid_admitted setup me message old mid skip apply cut all items h) in
+    subst (IsPart setup message (cut_in mid.store)) (sym h.items_are) (part_of setup me skip apply message (cut_in mid.store) h.fits these (omega (arith, h.within, ap length h.all_are)))
+
+pub mid_can : (setup : Setup) (me : ℕ) (message : Message) (old mid : Replica) (skip apply : ℕ) (cut : List ℕ) (all items : List LogItem) → Admits setup me message old mid skip apply cut all items → CanLearn setup.spec mid items
+mid_can setup me message old mid skip apply cut all items h =
+    can_learn setup me mid message items (mid_own setup me message old mid skip apply cut all items h) h.fits.sender (mid_part setup me message old mid skip apply cut all items h)
+
+pub mid_learns : (setup : Setup) (me : ℕ) (message : Message) (old mid new : Replica) (skip apply : ℕ) (cut : List ℕ) (all items : List LogItem) → Admits setup me message old mid skip apply cut all items → HasLearned setup.spec items mid new → Learns setup me message.from items mid new
+mid_learns setup me message old mid new skip apply cut all items h learned =
+    let own = mid_own setup me message old mid skip apply cut all items h in
+    let part = mid_part setup me message old mid skip apply cut all items h in
+    record {
+      own = own;
+      other = h.fits.other;
+      kept = learned.kept;
+      store = subst (λ n. IsStore setup.spec n new.store) own.store.whole learned.store;
+      logs = learned.logs message.from (row_from message.from (slice_index (cut_in mid.store) message.from) (length (log_at (known_to mid) message.from)) items (cut_counts setup.spec setup.replicas mid message.from own.store) part.row) (omega (arith, h.fits.sender, own.store.whole));
+    }
+
+-- at most one thing is accepted of each item
+accepts_few : (me : ℕ) (items : List LogItem) → length (accepts_of me items) ≤ length items
+accepts_few me [] = omega arith
+accepts_few me (x ∷ items) = let one = accept_few me x.origin x.index x.body in let rest = accepts_few me items in let both = append_long (accept_of me x.origin x.index x.body) (accepts_of me items) in omega (arith, one, rest, both)
+  where
+    append_long : (xs ys : List Body) → length (xs ++ ys) ≡ length xs + length ys
+    append_long [] ys = omega arith
+    append_long (x ∷ xs) ys = let rest = append_long xs ys in omega (arith, rest)
+
+-- how it stands once it has heard and learned
+pub learned_stands : (setup : Setup) (message : Message) (old mid new : Replica) (skip apply : ℕ) (cut : List ℕ) (all items : List LogItem) (stamp : ℕ) (sendings : List Sending) → Admits setup old.me message old mid skip apply cut all items → Learns setup old.me message.from items mid new
+    → standing_of stamp sendings new ≡ record (standing_of stamp sendings old) { told = told_of message old; cut = cut_after (cut_in old.store) items }
+learned_stands setup message old mid new skip apply cut all items stamp sendings h learns =
+    let me : ℕ = old.me in
+    let heard_known : known_to mid ≡ known_to old = ap known_to h.heard in
+    let heard_cut : cut_in mid.store ≡ cut_in old.store = ap (λ (r : Replica). cut_in r.store) h.heard in
+    let mine : new.me ≡ me = ap (λ (r : Replica). r.me) learns.kept ∙ ap (λ (r : Replica). r.me) h.heard in
+    let other : me ≢ message.from = λ same. h.fits.other (sym same) in
+    let log : own_log new ≡ own_log old = ap (log_at (known_to new)) mine ∙ ap (λ (l : Logs). log_at l me) learns.logs ∙ get_or-set_other (known_to mid) message.from me (log_at (known_to mid) message.from ++ items) [] other ∙ ap (λ (l : Logs). log_at l me) heard_known in
+    let cut_is : cut_in new.store ≡ cut_after (cut_in old.store) items = learned_cut setup message me items mid new learns h.fits.sender (mid_part setup me message old mid skip apply cut all items h) ∙ ap (λ (c : List ℕ). cut_after c items) heard_cut in
+    let wants : new.wants ≡ old.wants = ap (λ (r : Replica). r.wants) learns.kept ∙ ap (λ (r : Replica). r.wants) h.heard in
+    let told : new.told ≡ told_of message old = ap (λ (r : Replica). r.told) learns.kept ∙ ap (λ (r : Replica). r.told) h.heard in
+    ap (λ (l : List LogItem). let p : Standing = record (standing_of stamp sendings new) { log = l } in p) log
+    ∙ ap (λ (c : List ℕ). let p : Standing = record (standing_of stamp sendings new) { log = own_log old; cut = c } in p) cut_is
+    ∙ ap (λ (w : List Want). let p : Standing = record { log = own_log old; cut = cut_after (cut_in old.store) items; stamp = stamp; wants = w; told = new.told; sendings = sendings } in p) wants
+    ∙ ap (λ (t : List (List ℕ)). let p : Standing = record { log = own_log old; cut = cut_after (cut_in old.store) items; stamp = stamp; wants = old.wants; told = t; sendings = sendings } in p) told
+
+-- and accepted
+pub has_received : (setup : Setup) (message : Message) (old mid learned new : Replica) (skip apply accepted : ℕ) (cut : List ℕ) (all items : List LogItem) → Admits setup old.me message old mid skip apply cut all items → HasLearned setup.spec items mid learned
+    → HasLoggedAll setup (accepts_of learned.me items) learned new → accepted ≡ length (accepts_of learned.me items) → HasReceived setup message old apply accepted new
+has_received setup message old mid learned new skip apply accepted cut all items h learns logged counted =
+    let it = mid_learns setup old.me message old mid learned skip apply cut all items h learns in
+    let part = mid_part setup old.me message old mid skip apply cut all items h in
+    let mine : learned.me ≡ old.me = ap (λ (r : Replica). r.me) it.kept ∙ ap (λ (r : Replica). r.me) h.heard in
+    let mine_new : new.me ≡ learned.me = logged.own.me_is in
+    let heard_known : known_to mid ≡ known_to old = ap known_to h.heard in
+    let few = accepts_few learned.me items in
+    let stood : (stamp : ℕ) (sendings : List Sending) → standing_of stamp sendings learned ≡ record (standing_of stamp sendings old) { told = told_of message old; cut = cut_after (cut_in old.store) items } =
+    λ stamp sendings. learned_stands setup message old mid learned skip apply cut all items stamp sendings h it in
+    record {
+      own = subst (λ i. IsReplica setup i new) mine logged.own;
+      applied = items;
+      counted = sym (ap length h.items_are ∙ taken_long apply (drop skip message.items) (let left = dropped_long skip message.items in omega (arith, left, h.within, ap length h.all_are)));
+      admitted = subst (λ (c : List ℕ). AreAdmitted c message.items items) (ap (λ (r : Replica). cut_in r.store) h.heard) (mid_admitted setup old.me message old mid skip apply cut all items h);
+      accepts = counted ∙ ap (λ i. length (accepts_of i items)) mine;
+      few = omega (arith, few, part.few, counted);
+      grown = let longer = longer_by setup (accepts_of learned.me items) learned new logged in let same = ap (λ (p : Standing). length p.log) (stood 0 []) in omega (arith, longer, same, counted);
+      stands = λ stamp sendings. logged.stands stamp sendings ∙ ap (λ i. logged_all i (accepts_of i items) (standing_of stamp sendings learned)) mine ∙ ap (logged_all old.me (accepts_of old.me items)) (stood stamp sendings);
+      knows = logged.knows ∙ ap (λ (l : Logs). slice_set l new.me (own_log new)) (it.logs ∙ ap (with_items message.from items) heard_known);
+    }
+  where
+    dropped_long : (n : ℕ) (xs : List LogItem) → length (drop n xs) ≡ length xs - n
+    dropped_long zero xs = omega arith
+    dropped_long (suc n) [] = omega arith
+    dropped_long (suc n) (x ∷ xs) = let rest = dropped_long n xs in omega (arith, rest)
+    taken_long : (n : ℕ) (xs : List LogItem) → n ≤ length xs → length (take n xs) ≡ n
+    taken_long zero xs h = refl
+    taken_long (suc n) [] h = absurd (omega (arith, h))
+    taken_long (suc n) (x ∷ xs) h = let rest = taken_long n xs (omega (arith, h)) in omega (arith, rest)
