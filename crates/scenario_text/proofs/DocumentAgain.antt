@@ -1,6 +1,6 @@
 -- The canonical text of a document that was read is that document.
-use Rattle.std.proofs.Common.{◌≡◌, ◌⊎◌, inl, inr, ℕ, ◌+◌, ◌≤◌, Bool, true, false, cond, eqb, List, [], ◌∷◌, ◌++◌, map, refl, sym, ap, subst, ◌∙◌, arith}
-use Rattle.std.specs.Prelude.{Result, Ok, Err, Option, Some, None, codes}
+use Rattle.std.proofs.Common.{◌≡◌, inl, inr, ℕ, ◌+◌, ◌≤◌, Bool, true, false, cond, eqb, List, [], ◌∷◌, ◌++◌, map, refl, sym, ap, subst, ◌∙◌, arith}
+use Rattle.std.specs.Prelude.{Result, Ok, Err, Option, None, codes}
 use Rattle.std.specs.List.{AllByRecursion, flat_map}
 use Rattle.std.proofs.lemmas.Bool.{eqb-true, eqb-false, eq-eqb}
 use Rattle.line_text.specs.declared.cause.Cause.{Cause}
@@ -25,11 +25,10 @@ use Rattle.scenario_lines.specs.Texts.{line_text as run_line_text}
 use Rattle.scenario_lines.proofs.Back.{line_back}
 use Rattle.scenario_lines.proofs.Shapes.{tokens_of_line}
 use Rattle.scenario_lines.proofs.Spoken.{IsSpoken, spoken}
-use Rattle.scenario_lines.specs.Forms.{run_line}
 use Rattle.spec_language.specs.declared.draft.SpecDraft.{SpecDraft}
 use Rattle.spec_language.specs.Again.{steps as draft_steps}
 use Rattle.spec_language.specs.Draft.{step as spec_step}
-use Rattle.spec_language.specs.Saying.{spec_lines, spec_text}
+use Rattle.spec_language.specs.Saying.{spec_lines}
 use Rattle.spec_language.proofs.SaidAgain.{fresh_said, step_said, text_lines, ended_lines, plain_texts, flat_both}
 use Rattle.scenario_text.specs.declared.document.Document.{Document}
 use Rattle.scenario_text.specs.declared.document.Work.{Work}

@@ -32,6 +32,7 @@ use Rattle.scenario_text.specs.Draft as drafts
 use Rattle.scenario_text.specs.Reading.{accept, draft_of}
 use Rattle.scenario_text.specs.WellFormed as formed
 use Rattle.scenario_text.proofs.Limits.{Keeps, line_keeps}
+use Rattle.scenario_text.proofs.Numbered.{Counted, counted_kept, fresh_counted}
 use Rattle.scenario_text.proofs.Taken as takens
 
 arg_fits : (spec : Spec) (p : Var) (a : NamedArg) → requests.arg_fits p a ≡ true → requests.is_ordered a ≡ true → (requests.span_of a).hi < size_at spec.sorts p.sort → ArgFits spec p (requests.span_of a)
@@ -337,12 +338,15 @@ ended_same d e false c is = (refl, ok_same d e is)
 read_formed : (lines : List (List ℕ)) (d : Draft) → draft_of lines ≡ Ok d → Formed d
 read_formed lines d is = read_kept Formed accept drafts.ends (λ a b line f e. line_keeps Formed formed_kept a b line f e) (λ a b f e. subst Formed (ended_same a b (eqb a.replicas 0) _ e).1 f) lines 1 drafts.fresh d fresh_formed is
 
-work_fits : (d : Draft) (late : Bool) → Formed d → formed.WorkFits d.spec.spec d.replicas (cond late (works.Clients d.turns d.homes d.asks) (works.Schedule d.orders))
-work_fits d true f = record { few_turns = f.turns; homes_fit = f.homes; few_homes = f.few_homes; asks_fit = f.asks; few_asks = f.few_asks }
-work_fits d false f = record { orders_fit = f.orders; few_orders = f.few_orders }
+read_counted : (lines : List (List ℕ)) (d : Draft) → draft_of lines ≡ Ok d → Counted d
+read_counted lines d is = read_kept Counted accept drafts.ends (λ a b line c e. line_keeps Counted counted_kept a b line c e) (λ a b c e. subst Counted (ended_same a b (eqb a.replicas 0) _ e).1 c) lines 1 drafts.fresh d fresh_counted is
 
-document_fits : (d : Draft) → Formed d → 1 ≤ d.replicas → formed.IsWellFormedDocument (drafts.document_from d)
-document_fits d f some = record { spec = f.spec.whole; some_replicas = some; few_replicas = f.replicas; stops = f.stops; few_stops = f.few_stops; work = work_fits d (nat_le 10 d.rank) f }
+work_fits : (d : Draft) (late : Bool) → Formed d → Counted d → formed.WorkFits d.spec.spec d.replicas (cond late (works.Clients d.turns d.homes d.asks) (works.Schedule d.orders))
+work_fits d true f c = record { few_turns = f.turns; homes_fit = f.homes; few_homes = f.few_homes; asks_fit = f.asks; few_asks = f.few_asks }
+work_fits d false f c = record { orders_fit = f.orders; few_orders = f.few_orders; numbered = c.numbered }
+
+document_fits : (d : Draft) → Formed d → Counted d → 1 ≤ d.replicas → formed.IsWellFormedDocument (drafts.document_from d)
+document_fits d f c some = record { spec = f.spec.whole; some_replicas = some; few_replicas = f.replicas; stops = f.stops; few_stops = f.few_stops; work = work_fits d (nat_le 10 d.rank) f c }
 
 -- a document that was read to its end
 pub ended_formed : (number : ℕ) (d : Draft) (total : Result Draft (ℕ × Cause)) (texts : List (List ℕ)) → draft_of texts ≡ total → numbered number (drafts.ends d) ≡ total → (d.replicas ≡ 0 → ⊥) → formed.IsWellFormedDocument (drafts.document_from d)
@@ -350,4 +354,4 @@ ended_formed number d total texts read last some =
     let good : drafts.ends d ≡ Ok d = rw (ne_eqb d.replicas 0 some) refl in
     let done : draft_of texts ≡ Ok d = read ∙ sym last ∙ ap (numbered number) good in
     let one : 1 ≤ d.replicas = omega (arith, some) in
-    document_fits d (read_formed texts d done) one
+    document_fits d (read_formed texts d done) (read_counted texts d done) one

@@ -1,8 +1,8 @@
 -- What a document lacks where no line of it holds a word of a group.
-use Rattle.std.proofs.Common.{◌≡◌, ℕ, ◌+◌, ◌<◌, ◌≤◌, Bool, true, false, cond, ◌||◌, eqb, leb, List, [], ◌∷◌, ◌++◌, length, map, refl, sym, ap, subst, ◌∙◌, arith}
-use Rattle.std.specs.Prelude.{Result, Ok, Err, Option, Some, None, codes, nat_le, nat_lt, pos}
+use Rattle.std.proofs.Common.{◌≡◌, ℕ, ◌+◌, ◌≤◌, Bool, true, false, cond, ◌||◌, eqb, List, [], ◌∷◌, ◌++◌, length, map, refl, sym, ap, subst, ◌∙◌, arith}
+use Rattle.std.specs.Prelude.{Result, Ok, Err, Option, Some, None, codes, nat_le}
 use Rattle.std.specs.List.{AllByRecursion, list_any}
-use Rattle.std.proofs.lemmas.Bool.{leb-true, eqb-true, lt-leb}
+use Rattle.std.proofs.lemmas.Bool.{lt-leb}
 use Rattle.line_text.specs.declared.cause.Cause.{Cause}
 use Rattle.line_text.specs.declared.token.Token.{Token}
 use Rattle.line_text.specs.declared.token.Token.TheVariants.{Word, Number, Mark}
@@ -10,7 +10,7 @@ use Rattle.line_text.specs.Lines.{lines_of}
 use Rattle.line_text.specs.Texts.{line_tokens}
 use Rattle.line_text.specs.Bytes.{before_comment}
 use Rattle.line_text.specs.Words.{is_among, is_one_of, runs_of, run_before}
-use Rattle.line_text.proofs.Guards.{and_true, ok_same}
+use Rattle.line_text.proofs.Guards.{ok_same}
 use Rattle.line_text.proofs.Inverse.{listing_tokens, behind_tokens, flag_tokens}
 use Rattle.line_text.proofs.Again.{line_read}
 use Rattle.line_text.proofs.Runs.{IsNoNumber, runs_hold, run_found, runs_ended}
@@ -26,13 +26,11 @@ use Rattle.spec_model.specs.Truths.{rule_locks}
 use Rattle.spec_lines.specs.declared.item.NamedParam.{NamedParam}
 use Rattle.spec_lines.specs.declared.line.SpecLine.{SpecLine}
 use Rattle.spec_lines.specs.declared.line.SpecLine.TheVariants as spec_lines
-use Rattle.spec_lines.specs.Forms.{spec_line}
 use Rattle.spec_lines.specs.Texts.{rule_text}
 use Rattle.spec_lines.proofs.Shapes as shapes
 use Rattle.spec_lines.proofs.Back as spec_back
 use Rattle.scenario_lines.specs.declared.line.RunLine.{RunLine}
 use Rattle.scenario_lines.specs.declared.line.RunLine.TheVariants as run_lines
-use Rattle.scenario_lines.specs.Forms.{run_line}
 use Rattle.scenario_lines.proofs.Shapes as run_shapes
 use Rattle.scenario_lines.proofs.Back as run_back
 use Rattle.run_model.specs.declared.step.Ask.{Ask}
@@ -42,13 +40,12 @@ use Rattle.spec_language.specs.declared.draft.SpecDraft.{SpecDraft}
 use Rattle.spec_language.specs.Draft as spec_drafts
 use Rattle.spec_language.proofs.Taken as spec_takens
 use Rattle.spec_language.proofs.Limits.{all_one, last_keeps}
-use Rattle.scenario_text.specs.declared.document.Work.{Work}
 use Rattle.scenario_text.specs.declared.document.Work.TheVariants as works
 use Rattle.scenario_text.specs.declared.document.Document.{Document}
 use Rattle.scenario_text.specs.declared.draft.Draft.{Draft}
 use Rattle.scenario_text.specs.declared.group.Group.{Group}
 use Rattle.scenario_text.specs.declared.group.Group.TheVariants.{Unbuilt, Schedule, Clients}
-use Rattle.scenario_text.specs.Built.{StaysUp, AllStayUp, IsBuilt, HasNoOrder, IsSchedule, IsLacking}
+use Rattle.scenario_text.specs.Built.{StaysUp, AllStayUp, HasNoOrder, IsLacking}
 use Rattle.scenario_text.specs.Draft as drafts
 use Rattle.scenario_text.specs.Groups.{unbuilt_words, schedule_words, client_words, words_of, HasTokens, holds, first_from, first_line}
 use Rattle.scenario_text.specs.Reading.{accept, draft_of, document_of, document_of_draft}

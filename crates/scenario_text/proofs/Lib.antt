@@ -1,6 +1,7 @@
 pub mod Taken
 pub mod LineByLine
 pub mod Limits
+pub mod Numbered
 pub mod Formed
 pub mod Documents
 pub mod Fitting

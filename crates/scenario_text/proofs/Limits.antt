@@ -1,6 +1,6 @@
 -- Each line that is taken keeps the limits.
 use Rattle.std.proofs.Common.{◌≡◌, ℕ, zero, suc, ◌+◌, ◌<◌, ◌≤◌, true, List, [], ◌∷◌, ◌++◌, length, refl, subst, ◌∙◌, arith, length-append, length-set}
-use Rattle.std.specs.Prelude.{Ok, Option, Some, None, nat_le, nat_lt, slice_set, slice_get, replicate}
+use Rattle.std.specs.Prelude.{Ok, Some, nat_le, nat_lt, slice_set, slice_get, replicate}
 use Rattle.std.specs.Option.{option_map_or}
 use Rattle.std.specs.List.{AllByRecursion}
 use Rattle.std.proofs.lemmas.Bool.{leb-true, ltb-true}

@@ -1,25 +1,20 @@
 -- Each line that is taken is said at the end, so the lines that say a document give it again.
-use Rattle.std.proofs.Common.{◌≡◌, ◌⊎◌, inl, inr, ℕ, ◌+◌, ◌<◌, ◌≤◌, Bool, true, false, cond, not, ◌&&◌, eqb, List, [], ◌∷◌, ◌++◌, length, map, refl, sym, ap, subst, ◌∙◌, arith, append_assoc, append-nil, zero-add}
-use Rattle.std.specs.Prelude.{Result, Ok, Err, Option, Some, None, nat_le, nat_lt, codes}
-use Rattle.std.specs.List.{AllByRecursion, flat_map}
-use Rattle.std.proofs.lemmas.Bool.{leb-true, leb-false, le-leb, lt-leb, ltb-true, eqb-true, eq-eqb, eqb-false}
+use Rattle.std.proofs.Common.{◌≡◌, ◌⊎◌, inl, inr, ℕ, ◌+◌, ◌<◌, ◌≤◌, Bool, true, false, not, ◌&&◌, eqb, List, [], ◌∷◌, ◌++◌, length, map, refl, sym, ap, subst, ◌∙◌, arith, append_assoc, append-nil}
+use Rattle.std.specs.Prelude.{Result, Ok, Err, Some, nat_le, codes}
+use Rattle.std.specs.List.{AllByRecursion}
+use Rattle.std.proofs.lemmas.Bool.{leb-true, leb-false, le-leb, lt-leb, ltb-true, eqb-true, eqb-false}
 use Rattle.line_text.specs.declared.cause.Cause.{Cause}
-use Rattle.line_text.specs.declared.token.Token.{Token}
 use Rattle.line_text.specs.declared.token.Token.TheVariants.{Word, Number}
 use Rattle.line_text.specs.Causes.{◌>>=◌}
-use Rattle.line_text.specs.Texts.{line_tokens, read_lines}
+use Rattle.line_text.specs.Texts.{line_tokens}
 use Rattle.line_text.specs.Tokens.{tokens_of, are_small}
 use Rattle.line_text.specs.Forms.{number_at, ended}
-use Rattle.line_text.proofs.Guards.{and_true, not_true, bind_ok, ok_same}
-use Rattle.line_text.proofs.Readings.{read_kept}
+use Rattle.line_text.proofs.Guards.{and_true, not_true}
 use Rattle.spec_model.specs.declared.clause.Var.{Var}
 use Rattle.spec_model.specs.declared.operation.Op.{Op}
 use Rattle.run_model.specs.declared.step.Ask.{Ask}
 use Rattle.run_model.specs.declared.step.Ask.TheVariants as asks
 use Rattle.run_model.specs.declared.step.Order.{Order}
-use Rattle.spec_lines.specs.declared.line.SpecLine.{SpecLine}
-use Rattle.spec_lines.specs.Forms.{spec_line}
-use Rattle.spec_lines.proofs.Spoken.{IsSpoken as IsSpecSpoken, spoken as spec_spoken}
 use Rattle.scenario_lines.specs.declared.argument.NamedArg.{NamedArg}
 use Rattle.scenario_lines.specs.declared.argument.NamedArg.TheVariants as args
 use Rattle.scenario_lines.specs.declared.line.RunLine.{RunLine}
@@ -27,11 +22,8 @@ use Rattle.scenario_lines.specs.declared.line.RunLine.TheVariants as lines
 use Rattle.scenario_lines.specs.Forms.{run_line, turns_form, number_alone}
 use Rattle.scenario_lines.proofs.Spoken.{IsSpoken, spoken}
 use Rattle.spec_language.specs.declared.draft.SpecDraft.{SpecDraft}
-use Rattle.spec_language.specs.Again.{steps as draft_steps}
-use Rattle.spec_language.specs.Draft.{step as spec_step}
-use Rattle.spec_language.specs.Names.{is_known, place_in}
-use Rattle.spec_language.specs.Saying.{op_name, spec_lines}
-use Rattle.spec_language.proofs.SaidAgain.{Said as SpecSaid, fresh_said as fresh_spec_said, step_said as spec_step_said, name_back, map_one}
+use Rattle.spec_language.specs.Saying.{op_name}
+use Rattle.spec_language.proofs.SaidAgain.{Said as SpecSaid, name_back, map_one}
 use Rattle.spec_language.proofs.Limits.{all_one}
 use Rattle.scenario_text.specs.declared.document.ClientAsk.{ClientAsk}
 use Rattle.scenario_text.specs.declared.document.Work.{Work}
@@ -39,10 +31,8 @@ use Rattle.scenario_text.specs.declared.document.Work.TheVariants as works
 use Rattle.scenario_text.specs.declared.draft.Draft.{Draft}
 use Rattle.scenario_text.specs.Requests as requests
 use Rattle.scenario_text.specs.Draft as drafts
-use Rattle.scenario_text.specs.Reading.{accept, draft_of}
 use Rattle.scenario_text.specs.Saying as sayings
 use Rattle.scenario_text.proofs.Formed.{no_turns}
-use Rattle.scenario_text.proofs.LineByLine.{KeepsWith, line_keeps_with}
 use Rattle.scenario_text.proofs.Taken as takens
 use Rattle.scenario_text.proofs.Taken.{with_spec, with_replicas, with_turns}
 

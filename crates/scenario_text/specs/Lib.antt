@@ -1,5 +1,6 @@
 pub mod Requests
 pub mod Draft
+pub mod Numbered
 pub mod Bounds
 pub mod Reading
 pub mod Groups

@@ -1,5 +1,5 @@
 -- What holds of every document that is read.
-use Rattle.std.specs.Prelude.{◌≡◌, ℕ, ◌+◌, ◌<◌, ◌≤◌, List, length, Option, Some}
+use Rattle.std.specs.Prelude.{◌≡◌, ℕ, ◌+◌, ◌<◌, ◌≤◌, List, [], length, Option, Some}
 use Rattle.std.specs.List.{AllByRecursion}
 use Rattle.spec_model.specs.declared.spec.Spec.{Spec}
 use Rattle.run_model.specs.declared.step.Ask.{Ask}
@@ -7,6 +7,7 @@ use Rattle.run_model.specs.declared.step.Ask.TheVariants as asks
 use Rattle.run_model.specs.declared.step.Order.{Order}
 use Rattle.spec_model.specs.Fits.{InstFits, IsWellFormed}
 use Rattle.scenario_text.specs.Draft.{courier_turns}
+use Rattle.scenario_text.specs.Numbered.{AreNumbered}
 use Rattle.scenario_text.specs.declared.document.ClientAsk.{ClientAsk}
 use Rattle.scenario_text.specs.declared.document.Work.{Work}
 use Rattle.scenario_text.specs.declared.document.Work.TheVariants as works
@@ -45,10 +46,11 @@ pub record AskFits (spec : Spec) (clients : ℕ) (ask : ClientAsk) : Type 0 wher
   pub within : ask.client < clients
   pub request : RequestFits spec ask.ask
 
--- a schedule of at most 100,000 lines
+-- a schedule of at most 100,000 lines, whose sends are numbered for each pair of replicas, and whose takes name sends before them
 pub record ScheduleFits (spec : Spec) (replicas : ℕ) (orders : List Order) : Type 0 where
   pub orders_fit : AllByRecursion (OrderFits spec replicas) orders
   pub few_orders : length orders ≤ 100000
+  pub numbered : AreNumbered [] orders
 
 -- at most 32 clients, 10,000 turns, and 100,000 requests and turns of couriers
 pub record ClientsFit (spec : Spec) (replicas turns : ℕ) (homes : List ℕ) (asked : List ClientAsk) : Type 0 where
