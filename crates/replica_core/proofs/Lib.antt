@@ -8,3 +8,4 @@ pub mod Taken
 pub mod Needed
 pub mod Received
 pub mod Finished
+pub mod Showing

@@ -1,6 +1,12 @@
 -- Lists up to a place, and from it on.
-use Rattle.std.proofs.Common.{◌≡◌, ℕ, zero, suc, ◌+◌, ◌<◌, List, [], ◌∷◌, ◌++◌, length, get_or, map, take, drop, refl, sym, ap, ◌∙◌, arith}
-use Rattle.std.proofs.lemmas.List.{map-append}
+use Rattle.std.proofs.Common.{◌≡◌, ℕ, zero, suc, ◌+◌, ◌<◌, List, [], ◌∷◌, ◌++◌, length, get_or, map, filter, take, drop, Bool, refl, sym, ap, ◌∙◌, arith}
+use Rattle.std.specs.Prelude.{slice_get, Some}
+use Rattle.std.specs.List.{flat_map}
+use Rattle.std.proofs.lemmas.Option.{same_Some}
+use Rattle.std.proofs.lemmas.List.Concat.{flat_map-cons}
+use Rattle.std.proofs.lemmas.Grind.{flat_map-append}
+use Rattle.std.proofs.lemmas.List.{append-nil, map-append}
+use Rattle.std.proofs.lemmas.List.Elements.{filter-append}
 
 -- one element more
 pub take_more : {X : Type 0} (xs : List X) (k : ℕ) (x : X) → k < length xs → x ≡ get_or xs k x → take (k + 1) xs ≡ take k xs ++ x ∷ []
@@ -16,3 +22,18 @@ pub drop_at_item : {X : Type 0} (xs : List X) (k : ℕ) (x : X) → k < length x
 drop_at_item [] k x lt is = absurd (omega (arith, lt))
 drop_at_item {X} (y ∷ xs) zero x lt is = ap (λ z. z ∷ xs) (sym is)
 drop_at_item {X} (y ∷ xs) (suc k) x lt is = drop_at_item xs k x (omega (arith, lt)) is ∙ ap (λ n. x ∷ drop n (y ∷ xs)) (let one : suc (k + 1) ≡ suc k + 1 = omega arith in one)
+
+-- the same by the element that stands there
+pub take_at : {X : Type 0} (xs : List X) (k : ℕ) (x : X) → slice_get xs k ≡ Some x → take (k + 1) xs ≡ take k xs ++ x ∷ []
+take_at [] k x there = absurd cc
+take_at (y ∷ xs) zero x there = ap (λ z. z ∷ []) (same_Some y x there)
+take_at {X} (y ∷ xs) (suc k) x there = ap (λ n. take n (y ∷ xs)) (let one : suc k + 1 ≡ suc (k + 1) = omega arith in one) ∙ ap (λ (zs : List X). y ∷ zs) (take_at xs k x there)
+
+pub filter_at : {X : Type 0} (p : X → Bool) (xs : List X) (k : ℕ) (x : X) → slice_get xs k ≡ Some x → filter p (take (k + 1) xs) ≡ filter p (take k xs) ++ filter p (x ∷ [])
+filter_at p xs k x there = ap (filter p) (take_at xs k x there) ∙ filter-append p (take k xs) (x ∷ [])
+
+pub map_at : {X Y : Type 0} (f : X → Y) (xs : List X) (k : ℕ) (x : X) → slice_get xs k ≡ Some x → map f (take (k + 1) xs) ≡ map f (take k xs) ++ f x ∷ []
+map_at f xs k x there = ap (map f) (take_at xs k x there) ∙ map-append f (take k xs) (x ∷ [])
+
+pub flat_at : {X Y : Type 0} (f : X → List Y) (xs : List X) (k : ℕ) (x : X) → slice_get xs k ≡ Some x → flat_map f (take (k + 1) xs) ≡ flat_map f (take k xs) ++ f x
+flat_at {X} {Y} f xs k x there = ap (flat_map f) (take_at xs k x there) ∙ flat_map-append f (take k xs) (x ∷ []) ∙ ap (λ (ys : List Y). flat_map f (take k xs) ++ ys) (flat_map-cons f x [] ∙ append-nil (f x))

@@ -2,6 +2,7 @@
 #![tactic(auto)]
 
 mod replica;
+mod reports;
 mod requesting;
 mod rights;
 mod spending;

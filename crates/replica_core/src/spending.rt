@@ -38,7 +38,7 @@ fn cell_named(inst: &Inst, num: u32, params: &Args) -> Cell
 }
 
 /// Whether a number has a lower bound.
-fn is_bounded(spec: &Spec, num: u32) -> bool
+pub(crate) fn is_bounded(spec: &Spec, num: u32) -> bool
     ensures { result ≡ is_some (option_map_or (λ n. n.min) (slice_get spec.now.nums num) None) }
 {
     match spec.nums.get(num as usize) {

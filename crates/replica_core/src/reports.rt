@@ -1,0 +1,123 @@
+//! What a replica shows of itself.
+
+ghost use Rattle.std.specs.Prelude.{◌≡◌, ◌≢◌, ◌+◌, ◌<◌, ◌≤◌, ◌^◌, ◌++◌, ◌∷◌, [], IfOk, OnOk, filter, length, map, Contains};
+ghost use Rattle.std.specs.List.{flat_map};
+ghost use Rattle.spec_model.specs.Fits.{IsWellFormed};
+ghost use Rattle.spec_model.specs.Universe.{atoms, cells};
+ghost use Rattle.spec_model.specs.declared.instance.Cell.{Cell as CellOf};
+ghost use Rattle.spec_model.specs.declared.right.Right.TheVariants as right;
+ghost use Rattle.run_model.specs.Finals.{final_of};
+ghost use Rattle.run_model.specs.Rights.{held_count};
+ghost use Rattle.causal_store.specs.Stores.{IsShort, IsStore};
+ghost use Rattle.replica_core.specs.Tables.{HasNoUpper};
+
+use crate::replica::Replica;
+use crate::spending::is_bounded;
+use effect_model::{atom_at, atom_count, cell_at, cell_count, universe_is_all};
+use ind_base::{List, NoMemory};
+use run_model::{CellValue, Final, Hold};
+use spec_model::{Atom, Cell, Right, Setup, Spec};
+use std::alloc::Global;
+
+impl Replica {
+    ghost use Rattle.replica_core.specs.Replicas.{HasRoom, IsReplica, known_to, own_log, standing_of};
+    ghost use Rattle.replica_core.specs.Shown.{low_hold, is_true_now, value_now};
+
+    /// Adds an atom that is true.
+    fn push_truth(&self, spec: &Spec, truths: &mut List<Atom>, atom: &Atom) -> Result<(), NoMemory>
+        requires { IsStore spec.now (length (known_to self.now)) self.now.store }
+        ensures { OnOk result (truths.new ≡ truths.old ++ filter (is_true_now spec.now self.now) (atom.now ∷ [])) }
+    {
+        let _so_far = truths.as_slice();
+        if self.store.truth(spec, atom) {
+            truths.push(*atom)
+        } else {
+            Ok(())
+        }
+    }
+
+    /// The atoms that are true.
+    fn truths(&self, alloc: Global, spec: &Spec) -> Result<List<Atom>, NoMemory>
+        requires well_formed { IsWellFormed spec.now }
+        requires own { IsStore spec.now (length (known_to self.now)) self.now.store }
+        ensures { IfOk result (λ l. l ≡ filter (is_true_now spec.now self.now) (atoms spec.now)) }
+    {
+        let mut truths = List::new(alloc);
+        for place in 0..atom_count(spec) {
+            self.push_truth(spec, &mut truths, &atom_at(spec, place))?;
+        }
+        Ok(truths)
+    }
+
+    /// What each cell is worth.
+    fn values(&self, alloc: Global, spec: &Spec) -> Result<List<CellValue>, NoMemory>
+        requires well_formed { IsWellFormed spec.now }
+        requires own { IsStore spec.now (length (known_to self.now)) self.now.store }
+        requires short { IsShort self.now.store }
+        ensures { IfOk result (λ l. l ≡ map (value_now spec.now self.now) (cells spec.now)) }
+    {
+        universe_is_all();
+        let mut values = List::new(alloc);
+        for place in 0..cell_count(spec) {
+            let _so_far = values.as_slice();
+            let cell = cell_at(spec, place);
+            let value = self.store.value(spec, &cell);
+            values.push(CellValue { cell, value })?;
+        }
+        Ok(values)
+    }
+
+    /// Adds the rights to lower a cell that are held, if there are any.
+    fn push_hold(&self, setup: &Setup, holds: &mut List<Hold>, cell: &Cell) -> Result<(), NoMemory>
+        requires well_formed { IsWellFormed setup.now.spec }
+        requires own { IsReplica setup.now self.now.me self.now }
+        requires fits { Contains (cells setup.now.spec) cell.now }
+        requires room { HasRoom 0 self.now }
+        requires small { held_count setup.now (known_to self.now) self.now.me (own_log self.now) (right.Low cell.now) < 2 ^ 64 }
+        ensures { OnOk result (holds.new ≡ holds.old ++ low_hold setup.now self.now cell.now) }
+    {
+        let _so_far = holds.as_slice();
+        if !is_bounded(&setup.spec, cell.num) {
+            return Ok(());
+        }
+        let count = self.held(setup, cell) as u64;
+        if count == 0 {
+            return Ok(());
+        }
+        let right = Right::Low(*cell);
+        holds.push(Hold::Count { right, count })
+    }
+
+    /// The rights that are held.
+    fn all_held(&self, alloc: Global, setup: &Setup) -> Result<List<Hold>, NoMemory>
+        requires well_formed { IsWellFormed setup.now.spec }
+        requires own { IsReplica setup.now self.now.me self.now }
+        requires room { HasRoom 0 self.now }
+        requires small { (cell : CellOf) → Contains (cells setup.now.spec) cell → held_count setup.now (known_to self.now) self.now.me (own_log self.now) (right.Low cell) < 2 ^ 64 }
+        ensures { IfOk result (λ l. l ≡ flat_map (low_hold setup.now self.now) (cells setup.now.spec)) }
+    {
+        let mut holds = List::new(alloc);
+        for place in 0..cell_count(&setup.spec) {
+            self.push_hold(setup, &mut holds, &cell_at(&setup.spec, place))?;
+        }
+        Ok(holds)
+    }
+
+    /// What it has seen, which atoms are true by that, what each cell is worth, and what it holds.
+    pub fn last(&self, alloc: Global, setup: &Setup) -> Result<Final, NoMemory>
+        requires well_formed { IsWellFormed setup.now.spec }
+        requires lower { HasNoUpper setup.now.spec }
+        requires own { IsReplica setup.now self.now.me self.now }
+        requires room { HasRoom 0 self.now }
+        requires short { IsShort self.now.store }
+        requires small { (cell : CellOf) → Contains (cells setup.now.spec) cell → held_count setup.now (known_to self.now) self.now.me (own_log self.now) (right.Low cell) < 2 ^ 64 }
+        ensures { IfOk result (λ f. f ≡ final_of setup.now (known_to self.now) self.now.me (standing_of 0 [] self.now)) }
+    {
+        Ok(Final {
+            cut: self.store.cut(),
+            truths: self.truths(alloc, &setup.spec)?,
+            values: self.values(alloc, &setup.spec)?,
+            holds: self.all_held(alloc, setup)?,
+        })
+    }
+}
