@@ -1,4 +1,0 @@
-pub mod Steps
-pub mod LastOp
-pub mod Kept
-pub mod Whole

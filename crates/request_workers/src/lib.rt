@@ -1,0 +1,6 @@
+//! Runs of a document's work by its replicas.
+#![tactic(auto)]
+
+mod simulation;
+
+pub use simulation::simulate;
