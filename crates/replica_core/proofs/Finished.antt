@@ -50,8 +50,8 @@ dropped_own setup mid wants own is =
 
 -- a message was taken
 pub has_taken : (setup : Setup) (message : Message) (old mid new : Replica) (applied accepted gave : ℕ) (wants : List Want) → HasReceived setup message old applied accepted mid → wants ≡ still_wanted (holds_of setup mid) mid.wants
-    → HasGiven setup message.from message.wants (record mid { wants = wants }) gave new → HasTaken setup message old (outcomes.Took message.number applied accepted gave) new
-has_taken setup message old mid new applied accepted gave wants h is given =
+    → HasGiven setup message.from message.wants (record mid { wants = wants }) gave new → length message.wants ≤ 8 → HasTaken setup message old (outcomes.Took message.number applied accepted gave) new
+has_taken setup message old mid new applied accepted gave wants h is given few =
     let me : ℕ = old.me in
     let left : Replica = record mid { wants = wants } in
     let mine : mid.me ≡ me = h.own.me_is in
@@ -77,4 +77,5 @@ has_taken setup message old mid new applied accepted gave wants h is given =
             outcome_is = ap (λ n. outcomes.Took message.number n accepted gave) h.counted ∙ ap (λ n. outcomes.Took message.number (length h.applied) n gave) h.accepts;
           };
       knows = knows_both logs left new given.own.me_is knows given.knows;
+      grown = omega (arith, h.grown, h.few, given.counted, given.few, few);
     }

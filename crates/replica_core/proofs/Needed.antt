@@ -1,6 +1,7 @@
 -- What a request needs, and what is wanted once it is short.
 use Rattle.std.proofs.Common.{◌≡◌, inl, inr, ℕ, zero, suc, ◌+◌, ◌-◌, ◌<◌, ◌≤◌, ◌^◌, Bool, true, false, cond, List, [], ◌∷◌, ◌++◌, length, map, drop, refl, sym, ap, subst, ◌∙◌, arith}
 use Rattle.std.specs.Prelude.{Some, None, Option, Contains, is_some, nat_lt, slice_set}
+use Rattle.std.proofs.lemmas.List.{length-append}
 use Rattle.std.specs.List.{AllByRecursion, flat_map, list_any}
 use Rattle.std.proofs.lemmas.Bool.{cond_both, cond-false}
 use Rattle.std.proofs.lemmas.List.{length_push, length-map}
@@ -29,7 +30,7 @@ use Rattle.run_model.specs.Wants.{behind, is_on, noted, replaced, want_of}
 use Rattle.run_model.specs.Fitting.{WantFits}
 use Rattle.run_model.proofs.Lists.{each_append, each_weaker}
 use Rattle.replica_core.specs.Tables.{HasNoUpper, NeedFits, low_need}
-use Rattle.replica_core.specs.Replicas.{HasAnswered, HasLogged, IsReplica, holds_of, known_to, own_log, standing_of}
+use Rattle.replica_core.specs.Replicas.{HasAnswered, HasLogged, IsReplica, holds_of, item_of, known_to, own_log, standing_of}
 use Rattle.replica_core.specs.declared.replica.Replica.{Replica}
 use Rattle.replica_core.proofs.Taken.{set_back}
 
@@ -144,6 +145,7 @@ answered_short setup inst old new l own lower few is becomes =
       own = heard_replica setup old.me old new own (record { wants = noted old.wants want; told = old.told; is = becomes; fit = noted_fit (WantFits setup.spec) old.wants want own.wants fits; few = noted_few old.wants want own.few_wants; whole = own.told; each = own.told_each });
       requests = λ stamp sendings. subst (λ o. Requested old.me inst o (standing_of stamp sendings old) (outcomes.Short l) (standing_of stamp sendings new)) is (refl, ap (standing_of stamp sendings) becomes);
       knows = subst (λ (r : Replica). known_to r ≡ set_log r) (sym becomes) (sym (set_back (known_to old) old.me));
+      grown = omega (arith, ap (λ (r : Replica). length (own_log r)) becomes);
     }
   where
     set_log : Replica → Logs
@@ -156,4 +158,5 @@ answered_done setup inst old new index at is h = record {
   own = h.own;
   requests = λ stamp sendings. subst (λ o. Requested old.me inst o (standing_of stamp sendings old) (outcomes.Done index) (standing_of stamp sendings new)) is (ap outcomes.Done at, h.stands stamp sendings);
   knows = h.knows;
+  grown = omega (arith, ap (λ (p : Standing). length p.log) (h.stands 0 []), length-append (own_log old) (item_of old (body.Act inst) ∷ []));
 }

@@ -103,6 +103,7 @@ pub record HasAnswered (setup : Setup) (inst : Inst) (old : Replica) (outcome : 
   pub own : IsReplica setup old.me new
   pub requests : (stamp : ℕ) (sendings : List Sending) → Requests setup (known_to old) old.me inst (standing_of stamp sendings old) outcome (standing_of stamp sendings new)
   pub knows : KnowsOwn (known_to old) new
+  pub grown : length (own_log new) ≤ length (own_log old) + 1
 
 -- it has applied the item, which is of another log
 abbrev pub IsApplied : Replica → LogItem → Type 0
@@ -153,3 +154,4 @@ pub record HasTaken (setup : Setup) (message : Message) (old : Replica) (outcome
   pub takes : (stamp : ℕ) (sendings : List Sending)
       → Takes setup (with_items message.from applied (known_to old)) old.me message applied (standing_of stamp sendings old) outcome (standing_of stamp sendings new)
   pub knows : KnowsOwn (with_items message.from applied (known_to old)) new
+  pub grown : length (own_log new) ≤ length (own_log old) + 24

@@ -83,6 +83,13 @@ impl Replica {
         })
     }
 
+    /// Its number among the replicas.
+    pub fn me(&self) -> u32
+        ensures { result ≡ self.now.me }
+    {
+        self.me
+    }
+
     /// How many rights to lower a cell it holds.
     pub(crate) fn held(&self, setup: &Setup, cell: &Cell) -> u128
         requires well_formed { IsWellFormed setup.now.spec }

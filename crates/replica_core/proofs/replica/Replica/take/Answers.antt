@@ -23,4 +23,4 @@ pub returns : goal.returns
 returns c =
     let left : Replica = record c.receive.new.self { wants = c.in_ok-self.field-0 } in
     let given = subst (λ (l : List Want). HasGiven c.args.setup.now c.args.message.now.from l left c.in_ok-gave.gave c.answer_all.new.self) c.as_slice.ensures.value c.in_ok-gave.ensures.answered in
-    has_taken c.args.setup.now c.args.message.now c.args.self.now c.receive.new.self c.answer_all.new.self c.in_ok-applied.applied c.in_ok-applied.accepted c.in_ok-gave.gave c.in_ok-self.field-0 c.in_ok-applied.ensures c.in_ok-self.ensures given
+    has_taken c.args.setup.now c.args.message.now c.args.self.now c.receive.new.self c.answer_all.new.self c.in_ok-applied.applied c.in_ok-applied.accepted c.in_ok-gave.gave c.in_ok-self.field-0 c.in_ok-applied.ensures c.in_ok-self.ensures given c.requires.fits.few_wants
