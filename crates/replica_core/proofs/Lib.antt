@@ -9,3 +9,4 @@ pub mod Needed
 pub mod Received
 pub mod Finished
 pub mod Showing
+pub mod Sending

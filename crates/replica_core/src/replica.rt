@@ -83,6 +83,13 @@ impl Replica {
         })
     }
 
+    /// Which replica it is, from 0.
+    pub fn me(&self) -> u32
+        ensures { result ≡ self.now.me }
+    {
+        self.me
+    }
+
     /// How many rights to lower a cell it holds.
     pub(crate) fn held(&self, setup: &Setup, cell: &Cell) -> u128
         requires well_formed { IsWellFormed setup.now.spec }
@@ -150,7 +157,13 @@ impl Replica {
     }
 
     /// Gives rights to lower a cell to another replica. They are held.
-    pub(crate) fn give(&mut self, setup: &Setup, to: u32, cell: &Cell, count: u64) -> Result<(), NoMemory>
+    pub(crate) fn give(
+        &mut self,
+        setup: &Setup,
+        to: u32,
+        cell: &Cell,
+        count: u64,
+    ) -> Result<(), NoMemory>
         requires well_formed { IsWellFormed setup.now.spec }
         requires own { IsReplica setup.now self.old.me self.old }
         requires fits { Contains (cells setup.now.spec) cell.now }
