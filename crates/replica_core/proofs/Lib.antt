@@ -10,3 +10,4 @@ pub mod Received
 pub mod Finished
 pub mod Showing
 pub mod Sending
+pub mod Holding
