@@ -117,6 +117,7 @@ shares_more spec share counts new place cell long at is before i c lt there =
     last_is [] x i is = ap (slice_index (x ∷ [])) is
     last_is (y ∷ xs) x zero is = absurd (omega (arith, is))
     last_is (y ∷ xs) x (suc i) is = last_is xs x i (omega (arith, is))
+
     front_is : (xs : List ℕ) (x i : ℕ) → i < length xs → slice_index (xs ++ x ∷ []) i ≡ slice_index xs i
     front_is [] x i lt = absurd (omega (arith, lt))
     front_is (y ∷ xs) x zero lt = refl

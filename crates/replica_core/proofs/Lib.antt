@@ -9,3 +9,5 @@ pub mod Needed
 pub mod Received
 pub mod Finished
 pub mod Showing
+pub mod Sending
+pub mod Holding

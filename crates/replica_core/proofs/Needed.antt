@@ -51,6 +51,7 @@ low_fits spec inst cell among few = by_test (nat_lt 0 n) few
   where
     n : ℕ
     n = spends spec inst (right.Low cell)
+
     by_test : (b : Bool) → AllByRecursion IsFew (cond b (low_need cell n ∷ []) []) → AllByRecursion (NeedFits spec) (cond b (low_need cell n ∷ []) [])
     by_test true h = ((cell, n, among, refl, (let up = h.0.1 in omega (arith, up))), tt)
     by_test false h = tt
@@ -69,6 +70,7 @@ needs_fit spec inst lower few = of_cells (cells spec) (each_among (cells spec)) 
   where
     of_cell : Cell → List Need
     of_cell cell = escrow_need spec inst (right.Low cell) ++ escrow_need spec inst (right.High cell)
+
     of_cells : (cs : List Cell) → AllByRecursion (Contains (cells spec)) cs → AllByRecursion IsFew (flat_map of_cell cs) → AllByRecursion (NeedFits spec) (flat_map of_cell cs)
     of_cells [] among h = tt
     of_cells (cell ∷ cs) among h =
@@ -85,6 +87,7 @@ lacking_fits P h (need ∷ needs) l all is = by_test (is_met h need) (λ later. 
   where
     need_is : Some (record { need = need; held = h need }) ≡ Some l → need ≡ l.need
     need_is same = cc
+
     by_test : (b : Bool) → (first_lacking h needs ≡ Some l → P l.need) → cond b (first_lacking h needs) (Some (record { need = need; held = h need })) ≡ Some l → P l.need
     by_test true later same = later same
     by_test false later same = subst P (need_is same) all.0
@@ -129,8 +132,17 @@ pub record Hears (setup : Setup) (old new : Replica) : Type 0 where
 
 pub heard_replica : (setup : Setup) (me : ℕ) (old new : Replica) → IsReplica setup me old → Hears setup old new → IsReplica setup me new
 heard_replica setup me old new own h = subst (IsReplica setup me) (sym h.is) (record {
-  me_is = own.me_is; within = own.within; store = own.store; own = own.own; known = own.known; covered = own.covered; holds = own.holds;
-  wants = h.fit; few_wants = h.few; told = h.whole; told_each = h.each;
+  me_is = own.me_is;
+  within = own.within;
+  store = own.store;
+  own = own.own;
+  known = own.known;
+  covered = own.covered;
+  holds = own.holds;
+  wants = h.fit;
+  few_wants = h.few;
+  told = h.whole;
+  told_each = h.each;
 })
 
 -- ---- requests

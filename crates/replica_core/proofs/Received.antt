@@ -38,7 +38,7 @@ row_from : (from a b : ℕ) (items : List LogItem) → a ≡ b → AreInRow from
 row_from from a b items same = subst (λ n. AreInRow from n items) same
 
 -- the items in front of a row are a row
-row_taken : (from at n : ℕ) (items : List LogItem) → AreInRow from at items → AreInRow from at (take n items)
+pub row_taken : (from at n : ℕ) (items : List LogItem) → AreInRow from at items → AreInRow from at (take n items)
 row_taken from at zero items row = tt
 row_taken from at (suc n) [] row = tt
 row_taken from at (suc n) (x ∷ items) row = (row.0, row.1, row.2, row_taken from (at + 1) n items row.3)
@@ -57,6 +57,7 @@ row_goes_on from at cut items (x ∷ applied) row admitted =
     any : (items : List LogItem) → AllByRecursion (λ (i : LogItem). Unit {0}) items
     any [] = tt
     any (i ∷ items) = (tt, any items)
+
     not_less : (a b : ℕ) → not (nat_lt a b) ≡ true → b ≤ a
     not_less a b h = elim (cases_Bool (nat_lt a b)) [
       | inl less ↦ absurd (let wrong : false ≡ true = sym (ap not less) ∙ h in cc)
@@ -147,6 +148,7 @@ item_stays from at origin known applied lt =
     inside [] i k h = absurd (omega (arith, h))
     inside (x ∷ logs) zero k h = omega arith
     inside (x ∷ logs) (suc i) k h = let rest = inside logs i k h in omega (arith, rest)
+
     front : (xs ys : List LogItem) (k : ℕ) → k < length xs → slice_get xs k ≡ slice_get (xs ++ ys) k
     front [] ys k h = absurd (omega (arith, h))
     front (x ∷ xs) ys zero h = refl
@@ -158,12 +160,14 @@ log_longer from origin known applied = longer known from origin applied
     append_longer : (xs ys : List LogItem) → length xs ≤ length (xs ++ ys)
     append_longer [] ys = omega arith
     append_longer (x ∷ xs) ys = let rest = append_longer xs ys in omega (arith, rest)
+
     set_longer : (logs : Logs) (i j : ℕ) (log : List LogItem) → length (log_at logs i) ≤ length log → length (log_at logs j) ≤ length (log_at (set logs i log) j)
     set_longer [] i j log h = omega arith
     set_longer (x ∷ logs) zero zero log h = h
     set_longer (x ∷ logs) zero (suc j) log h = omega arith
     set_longer (x ∷ logs) (suc i) zero log h = omega arith
     set_longer (x ∷ logs) (suc i) (suc j) log h = set_longer logs i j log h
+
     longer : (logs : Logs) (i j : ℕ) (more : List LogItem) → length (log_at logs j) ≤ length (log_at (set logs i (log_at logs i ++ more)) j)
     longer logs i j more = set_longer logs i j (log_at logs i ++ more) (append_longer (log_at logs i) more)
 
@@ -240,10 +244,11 @@ all_applied setup message me applied old new h sender part k d lt =
     let log : List LogItem = log_at (known_to old) message.from in
     let c : slice_index (cut_in old.store) message.from ≡ length log = cut_counts setup.spec setup.replicas old message.from h.own.store in
     let at : x.index ≡ length log + k = omega (arith, place.1, c) in
-    let lt_known : message.from < length (known_to old) = omega (arith, sender, h.own.store.whole) in
-    (λ same. h.other (sym place.0 ∙ same ∙ mine),
+    let lt_known : message.from < length (known_to old) = omega (arith, sender, h.own.store.whole) in (
+      λ same. h.other (sym place.0 ∙ same ∙ mine),
       ap (λ (l : Logs). item_at l x.origin x.index) h.logs ∙ ap (λ o. item_at (with_items message.from applied (known_to old)) o x.index) place.0
-      ∙ ap (λ (l : List LogItem). slice_get l x.index) (get_or-set_same (known_to old) message.from (log ++ applied) [] lt_known) ∙ ap (slice_get (log ++ applied)) at ∙ get_behind log applied k ∙ there)
+          ∙ ap (λ (l : List LogItem). slice_get l x.index) (get_or-set_same (known_to old) message.from (log ++ applied) [] lt_known) ∙ ap (slice_get (log ++ applied)) at ∙ get_behind log applied k ∙ there,
+    )
   where
     get_there : (xs : List LogItem) (k : ℕ) (d : LogItem) → k < length xs → slice_get xs k ≡ Some (get_or xs k d)
     get_there [] k d lt = absurd (omega (arith, lt))
@@ -378,6 +383,7 @@ has_received setup message old mid learned new skip apply accepted cut all items
     dropped_long zero xs = omega arith
     dropped_long (suc n) [] = omega arith
     dropped_long (suc n) (x ∷ xs) = let rest = dropped_long n xs in omega (arith, rest)
+
     taken_long : (n : ℕ) (xs : List LogItem) → n ≤ length xs → length (take n xs) ≡ n
     taken_long zero xs h = refl
     taken_long (suc n) [] h = absurd (omega (arith, h))

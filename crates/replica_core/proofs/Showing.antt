@@ -30,6 +30,7 @@ lows_alone setup r lower = sym (append-nil (low_holds setup (known_to r) r.me (s
   where
     high : Cell → List Hold
     high cell = cond (is_some (upper_bound setup.spec cell)) (hold_of (right.High cell) (held_count setup (known_to r) r.me (own_log r) (right.High cell))) []
+
     none_high : (cs : List Cell) → flat_map high cs ≡ []
     none_high [] = refl
     none_high (cell ∷ cs) =

@@ -148,8 +148,10 @@ accepts_more me items k x lt is = ap (accepts_of me) (take_more items k x lt is)
     take_more [] k x lt is = absurd (omega (arith, lt))
     take_more (y ∷ xs) zero x lt is = ap (λ z. z ∷ []) (sym is)
     take_more (y ∷ xs) (suc k) x lt is = ap (λ n. take n (y ∷ xs)) (let one : suc k + 1 ≡ suc (k + 1) = omega arith in one) ∙ ap (λ (zs : List LogItem). y ∷ zs) (take_more xs k x (omega (arith, lt)) is)
+
     flat_one : (f : LogItem → List Body) (x : LogItem) → flat_map f (x ∷ []) ≡ f x
     flat_one f x = flat_map-cons f x [] ∙ append-nil (f x)
+
     flat_push : (xs : List LogItem) (x : LogItem) → accepts_of me (xs ++ x ∷ []) ≡ accepts_of me xs ++ accept_of me x.origin x.index x.body
     flat_push xs x = flat_map-append (λ (i : LogItem). accept_of me i.origin i.index i.body) xs (x ∷ []) ∙ ap (λ (bs : List Body). accepts_of me xs ++ bs) (flat_one (λ (i : LogItem). accept_of me i.origin i.index i.body) x)
 

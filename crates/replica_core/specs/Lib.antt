@@ -1,3 +1,4 @@
 pub mod Tables
 pub mod Replicas
 pub mod Shown
+pub mod Laws

@@ -1,5 +1,5 @@
 -- A replica of the code, as the definitions of runs see it.
-use Rattle.std.specs.Prelude.{◌≡◌, ◌≢◌, ℕ, ◌+◌, ◌-◌, ◌<◌, ◌≤◌, ◌^◌, List, [], ◌∷◌, ◌++◌, length, slice_set, sum_by, Contains, Some}
+use Rattle.std.specs.Prelude.{◌≡◌, ◌≢◌, ℕ, ◌+◌, ◌<◌, ◌≤◌, ◌^◌, List, ◌++◌, length, slice_set, sum_by, Contains, Some}
 use Rattle.std.specs.List.{AllByRecursion}
 use Rattle.spec_model.specs.declared.plan.Setup.{Setup}
 use Rattle.spec_model.specs.declared.spec.Spec.{Spec}
@@ -11,7 +11,6 @@ use Rattle.spec_model.specs.declared.log.Body.TheVariants as body
 use Rattle.spec_model.specs.declared.log.LogItem.{LogItem}
 use Rattle.spec_model.specs.Universe.{cells}
 use Rattle.run_model.specs.declared.message.Message.{Message}
-use Rattle.run_model.specs.declared.step.Ask.TheVariants as asks
 use Rattle.run_model.specs.declared.step.Outcome.{Outcome}
 use Rattle.run_model.specs.Logs.{Logs, item_at, log_at}
 use Rattle.spec_model.specs.declared.right.Need.{Need}

@@ -1,5 +1,5 @@
 -- A table of rights: how many to lower each cell, by the cell's place in the universe.
-use Rattle.std.specs.Prelude.{◌≡◌, ◌≢◌, ℕ, ◌+◌, ◌-◌, ◌*◌, ◌<◌, ◌≤◌, ◌^◌, List, length, is_some, if◌then◌else◌, slice_get, slice_index, Some, None, sum_by, Contains}
+use Rattle.std.specs.Prelude.{◌≡◌, ℕ, ◌+◌, ◌*◌, ◌<◌, ◌≤◌, ◌^◌, List, length, is_some, if◌then◌else◌, slice_get, slice_index, Some, None, Contains}
 use Rattle.spec_model.specs.declared.plan.Setup.{Setup}
 use Rattle.spec_model.specs.declared.spec.Spec.{Spec}
 use Rattle.spec_model.specs.declared.instance.Cell.{Cell}

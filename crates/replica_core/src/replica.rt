@@ -83,7 +83,7 @@ impl Replica {
         })
     }
 
-    /// Its number among the replicas.
+    /// Which replica it is, from 0.
     pub fn me(&self) -> u32
         ensures { result ≡ self.now.me }
     {
@@ -157,7 +157,13 @@ impl Replica {
     }
 
     /// Gives rights to lower a cell to another replica. They are held.
-    pub(crate) fn give(&mut self, setup: &Setup, to: u32, cell: &Cell, count: u64) -> Result<(), NoMemory>
+    pub(crate) fn give(
+        &mut self,
+        setup: &Setup,
+        to: u32,
+        cell: &Cell,
+        count: u64,
+    ) -> Result<(), NoMemory>
         requires well_formed { IsWellFormed setup.now.spec }
         requires own { IsReplica setup.now self.old.me self.old }
         requires fits { Contains (cells setup.now.spec) cell.now }

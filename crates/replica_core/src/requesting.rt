@@ -1,10 +1,10 @@
 //! What a replica answers to a request, and what it sends.
 
-ghost use Rattle.std.specs.Prelude.{◌≡◌, ◌<◌, ◌≤◌, ◌^◌, All, IfOk, OnOk, length, slice_index, slice_index_or, map, Contains, [], ◌∷◌};
+ghost use Rattle.std.specs.Prelude.{◌≡◌, ◌≢◌, ◌<◌, ◌≤◌, ◌^◌, All, IfOk, OnOk, length, slice_index, slice_index_or, map, Contains, [], ◌∷◌};
 ghost use Rattle.spec_model.specs.Fits.{InstFits, IsWellFormed};
 ghost use Rattle.run_model.specs.Rights.{first_lacking};
 ghost use Rattle.run_model.specs.Steps.{message_of};
-ghost use Rattle.run_model.specs.Fitting.{WantFits};
+ghost use Rattle.run_model.specs.Fitting.{MessageFits, WantFits};
 ghost use Rattle.run_model.specs.Wants.{noted, want_less, want_of};
 ghost use Rattle.spec_model.specs.Universe.{cells};
 ghost use Rattle.replica_core.specs.Tables.{HasNoUpper, NeedFits, low_need};
@@ -98,7 +98,12 @@ impl Replica {
 
     /// Answers a request: done where all that it needs is held, else short of the first need that
     /// isn't met, which is wanted from then on.
-    pub fn request(&mut self, alloc: Global, setup: &Setup, inst: &Inst) -> Result<Outcome, NoMemory>
+    pub fn request(
+        &mut self,
+        alloc: Global,
+        setup: &Setup,
+        inst: &Inst,
+    ) -> Result<Outcome, NoMemory>
         requires well_formed { IsWellFormed setup.now.spec }
         requires lower { HasNoUpper setup.now.spec }
         requires own { IsReplica setup.now self.old.me self.old }
@@ -174,8 +179,11 @@ impl Replica {
     ) -> Result<Message, NoMemory>
         requires well_formed { IsWellFormed setup.now.spec }
         requires own { IsReplica setup.now self.now.me self.now }
+        requires other { to ≢ self.now.me }
+        requires place { to < setup.now.replicas }
         requires room { HasRoom 0 self.now }
-        ensures { IfOk result (λ m. m ≡ message_of setup.now (known_to self.now) self.now.me to number stamp (standing_of 0 [] self.now)) }
+        ensures message { IfOk result (λ m. m ≡ message_of setup.now (known_to self.now) self.now.me to number stamp (standing_of 0 [] self.now)) }
+        ensures fits { IfOk result (MessageFits setup.now.spec setup.now.replicas to) }
     {
         let items = next_items(alloc, self.store.log(self.me), self.known_by(to))?;
         let wants = self.all_lacking(alloc, setup)?;

@@ -257,7 +257,12 @@ impl Replica {
 
     /// Takes a message: applies what it may of its items, accepts what they give, drops the wants
     /// that are met, and gives to the sender of what it wants.
-    pub fn take(&mut self, alloc: Global, setup: &Setup, message: &Message) -> Result<Outcome, NoMemory>
+    pub fn take(
+        &mut self,
+        alloc: Global,
+        setup: &Setup,
+        message: &Message,
+    ) -> Result<Outcome, NoMemory>
         requires well_formed { IsWellFormed setup.now.spec }
         requires own { IsReplica setup.now self.old.me self.old }
         requires fits { MessageFits setup.now.spec setup.now.replicas self.old.me message.now }

@@ -34,9 +34,13 @@ pub(crate) fn same_right(a: &Right, b: &Right) -> bool
     match (a, b) {
         (Right::Low(a), Right::Low(b)) => same_cell(a, b),
         (Right::High(a), Right::High(b)) => same_cell(a, b),
-        (Right::Lock { lock: a, key }, Right::Lock { lock: b, key: other }) => {
-            *a == *b && same(key.as_slice(), other.as_slice())
-        }
+        (
+            Right::Lock { lock: a, key },
+            Right::Lock {
+                lock: b,
+                key: other,
+            },
+        ) => { *a == *b && same(key.as_slice(), other.as_slice()) }
         (
             Right::Entry {
                 clause: a,
@@ -49,9 +53,13 @@ pub(crate) fn same_right(a: &Right, b: &Right) -> bool
                 literal: j,
             },
         ) => *a == *b && same(args.as_slice(), others.as_slice()) && *i == *j,
-        (Right::Part { part: a, key }, Right::Part { part: b, key: other }) => {
-            *a == *b && same(key.as_slice(), other.as_slice())
-        }
+        (
+            Right::Part { part: a, key },
+            Right::Part {
+                part: b,
+                key: other,
+            },
+        ) => { *a == *b && same(key.as_slice(), other.as_slice()) }
         _ => false,
     }
 }
@@ -75,7 +83,11 @@ fn replaced(alloc: Global, wants: &[Want], want: &Want) -> Result<List<Want>, No
     let mut made = List::new(alloc);
     for old in wants {
         let _so_far = made.as_slice();
-        made.push(if same_right(&old.right, &want.right) { *want } else { *old })?;
+        made.push(if same_right(&old.right, &want.right) {
+            *want
+        } else {
+            *old
+        })?;
     }
     Ok(made)
 }

@@ -113,7 +113,7 @@ items_known (l ∷ logs) (c ∷ cut) (k ∷ known) long whole knows =
     ap (λ (xs : List LogItem). xs ++ items_in cut known) same ∙ ap (λ (xs : List LogItem). take c l ++ xs) rest
 
 -- what is held is the same by what is known
-held_known : (setup : Setup) (logs known : Logs) (me : ℕ) (own : List LogItem) (cut : List ℕ) → Knows logs cut known → AllByRecursion (λ i. IsSeen cut i.body) own
+pub held_known : (setup : Setup) (logs known : Logs) (me : ℕ) (own : List LogItem) (cut : List ℕ) → Knows logs cut known → AllByRecursion (λ i. IsSeen cut i.body) own
     → held_count setup known me own ≡ held_count setup logs me own
 held_known setup logs known me own cut knows seen =
     fun_ext (λ (r : Right). ap (λ gained. (even_share (first_count setup.spec r) setup.replicas me + gained) - sum_by (λ (i : LogItem). body_loses setup.spec r i.body) own)

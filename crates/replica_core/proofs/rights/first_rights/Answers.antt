@@ -25,7 +25,7 @@ pub returns : goal.returns
 returns c =
     let all : c.loop-place.place ≡ length (cells c.args.setup.now.spec) = omega (arith, c.loop-place-test.false, c.loop-place.auto.place-end, c.cell_count-place-end.ensures.count) in
     record {
-  whole = c.loop-place.invariant.long ∙ all;
-  shares = λ i cell is. c.loop-place.invariant.shares i cell (let lt = slice_get_within (cells c.args.setup.now.spec) i cell is in omega (arith, lt, all)) is;
-  small = c.loop-place.invariant.small;
-}
+      whole = c.loop-place.invariant.long ∙ all;
+      shares = λ i cell is. c.loop-place.invariant.shares i cell (let lt = slice_get_within (cells c.args.setup.now.spec) i cell is in omega (arith, lt, all)) is;
+      small = c.loop-place.invariant.small;
+    }

@@ -18,7 +18,14 @@ learn-requires c =
     let apply = c.admit-admitted.result.apply in
     let is : items ≡ take apply (drop skip message.items) = c.split_at-2.ensures.front ∙ ap (take apply) (c.split_at.ensures.back ∙ ap (drop skip) c.as_slice-2.ensures.value) in
     let admits : Admits c.args.setup.now c.args.self.now.me message c.args.self.now c.hear.new.self skip apply c.cut.result c.as_slice.result.now items = record {
-      own = c.requires.own; fits = c.requires.fits; heard = c.hear.ensures; cut_is = c.cut.ensures; all_are = c.as_slice.ensures.value; admitted = c.admit-admitted.ensures.applied; within = c.admit-admitted.ensures.within; items_are = is;
+      own = c.requires.own;
+      fits = c.requires.fits;
+      heard = c.hear.ensures;
+      cut_is = c.cut.ensures;
+      all_are = c.as_slice.ensures.value;
+      admitted = c.admit-admitted.ensures.applied;
+      within = c.admit-admitted.ensures.within;
+      items_are = is;
     } in
     record { store = mid_can c.args.setup.now c.args.self.now.me message c.args.self.now c.hear.new.self skip apply c.cut.result c.as_slice.result.now items admits }
 
@@ -30,7 +37,14 @@ accept_all-requires-clause-own c =
     let apply = c.admit-admitted.result.apply in
     let is : items ≡ take apply (drop skip message.items) = c.split_at-2.ensures.front ∙ ap (take apply) (c.split_at.ensures.back ∙ ap (drop skip) c.as_slice-2.ensures.value) in
     let admits : Admits c.args.setup.now c.args.self.now.me message c.args.self.now c.hear.new.self skip apply c.cut.result c.as_slice.result.now items = record {
-      own = c.requires.own; fits = c.requires.fits; heard = c.hear.ensures; cut_is = c.cut.ensures; all_are = c.as_slice.ensures.value; admitted = c.admit-admitted.ensures.applied; within = c.admit-admitted.ensures.within; items_are = is;
+      own = c.requires.own;
+      fits = c.requires.fits;
+      heard = c.hear.ensures;
+      cut_is = c.cut.ensures;
+      all_are = c.as_slice.ensures.value;
+      admitted = c.admit-admitted.ensures.applied;
+      within = c.admit-admitted.ensures.within;
+      items_are = is;
     } in
     let learns = mid_learns c.args.setup.now c.args.self.now.me message c.args.self.now c.hear.new.self c.learn.new.self skip apply c.cut.result c.as_slice.result.now items admits c.in_ok-learn.ensures in
     own_again c.args.setup.now c.args.self.now.me c.learn.new.self (learned_replica c.args.setup.now c.args.self.now.me message.from items c.hear.new.self c.learn.new.self learns)
@@ -43,7 +57,14 @@ accept_all-requires-clause-fits c =
     let apply = c.admit-admitted.result.apply in
     let is : items ≡ take apply (drop skip message.items) = c.split_at-2.ensures.front ∙ ap (take apply) (c.split_at.ensures.back ∙ ap (drop skip) c.as_slice-2.ensures.value) in
     let admits : Admits c.args.setup.now c.args.self.now.me message c.args.self.now c.hear.new.self skip apply c.cut.result c.as_slice.result.now items = record {
-      own = c.requires.own; fits = c.requires.fits; heard = c.hear.ensures; cut_is = c.cut.ensures; all_are = c.as_slice.ensures.value; admitted = c.admit-admitted.ensures.applied; within = c.admit-admitted.ensures.within; items_are = is;
+      own = c.requires.own;
+      fits = c.requires.fits;
+      heard = c.hear.ensures;
+      cut_is = c.cut.ensures;
+      all_are = c.as_slice.ensures.value;
+      admitted = c.admit-admitted.ensures.applied;
+      within = c.admit-admitted.ensures.within;
+      items_are = is;
     } in
     let part = mid_part c.args.setup.now c.args.self.now.me message c.args.self.now c.hear.new.self skip apply c.cut.result c.as_slice.result.now items admits in
     λ k d lt. all_at (ItemFits c.args.setup.now.spec c.args.setup.now.replicas) items k d part.fits lt
@@ -56,7 +77,14 @@ accept_all-requires-clause-applied c =
     let apply = c.admit-admitted.result.apply in
     let is : items ≡ take apply (drop skip message.items) = c.split_at-2.ensures.front ∙ ap (take apply) (c.split_at.ensures.back ∙ ap (drop skip) c.as_slice-2.ensures.value) in
     let admits : Admits c.args.setup.now c.args.self.now.me message c.args.self.now c.hear.new.self skip apply c.cut.result c.as_slice.result.now items = record {
-      own = c.requires.own; fits = c.requires.fits; heard = c.hear.ensures; cut_is = c.cut.ensures; all_are = c.as_slice.ensures.value; admitted = c.admit-admitted.ensures.applied; within = c.admit-admitted.ensures.within; items_are = is;
+      own = c.requires.own;
+      fits = c.requires.fits;
+      heard = c.hear.ensures;
+      cut_is = c.cut.ensures;
+      all_are = c.as_slice.ensures.value;
+      admitted = c.admit-admitted.ensures.applied;
+      within = c.admit-admitted.ensures.within;
+      items_are = is;
     } in
     let part = mid_part c.args.setup.now c.args.self.now.me message c.args.self.now c.hear.new.self skip apply c.cut.result c.as_slice.result.now items admits in
     let learns = mid_learns c.args.setup.now c.args.self.now.me message c.args.self.now c.hear.new.self c.learn.new.self skip apply c.cut.result c.as_slice.result.now items admits c.in_ok-learn.ensures in
@@ -70,7 +98,14 @@ accept_all-requires-clause-room c =
     let apply = c.admit-admitted.result.apply in
     let is : items ≡ take apply (drop skip message.items) = c.split_at-2.ensures.front ∙ ap (take apply) (c.split_at.ensures.back ∙ ap (drop skip) c.as_slice-2.ensures.value) in
     let admits : Admits c.args.setup.now c.args.self.now.me message c.args.self.now c.hear.new.self skip apply c.cut.result c.as_slice.result.now items = record {
-      own = c.requires.own; fits = c.requires.fits; heard = c.hear.ensures; cut_is = c.cut.ensures; all_are = c.as_slice.ensures.value; admitted = c.admit-admitted.ensures.applied; within = c.admit-admitted.ensures.within; items_are = is;
+      own = c.requires.own;
+      fits = c.requires.fits;
+      heard = c.hear.ensures;
+      cut_is = c.cut.ensures;
+      all_are = c.as_slice.ensures.value;
+      admitted = c.admit-admitted.ensures.applied;
+      within = c.admit-admitted.ensures.within;
+      items_are = is;
     } in
     let learns = mid_learns c.args.setup.now c.args.self.now.me message c.args.self.now c.hear.new.self c.learn.new.self skip apply c.cut.result c.as_slice.result.now items admits c.in_ok-learn.ensures in
     let stands = learned_stands c.args.setup.now message c.args.self.now c.hear.new.self c.learn.new.self skip apply c.cut.result c.as_slice.result.now items 0 [] admits learns in
@@ -85,6 +120,13 @@ returns c =
     let apply = c.admit-admitted.result.apply in
     let is : items ≡ take apply (drop skip message.items) = c.split_at-2.ensures.front ∙ ap (take apply) (c.split_at.ensures.back ∙ ap (drop skip) c.as_slice-2.ensures.value) in
     let admits : Admits c.args.setup.now c.args.self.now.me message c.args.self.now c.hear.new.self skip apply c.cut.result c.as_slice.result.now items = record {
-      own = c.requires.own; fits = c.requires.fits; heard = c.hear.ensures; cut_is = c.cut.ensures; all_are = c.as_slice.ensures.value; admitted = c.admit-admitted.ensures.applied; within = c.admit-admitted.ensures.within; items_are = is;
+      own = c.requires.own;
+      fits = c.requires.fits;
+      heard = c.hear.ensures;
+      cut_is = c.cut.ensures;
+      all_are = c.as_slice.ensures.value;
+      admitted = c.admit-admitted.ensures.applied;
+      within = c.admit-admitted.ensures.within;
+      items_are = is;
     } in
     has_received c.args.setup.now message c.args.self.now c.hear.new.self c.learn.new.self c.accept_all.new.self skip apply c.in_ok-accepted.accepted c.cut.result c.as_slice.result.now items admits c.in_ok-learn.ensures c.in_ok-accepted.ensures.logged c.in_ok-accepted.ensures.count

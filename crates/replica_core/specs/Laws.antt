@@ -1,0 +1,25 @@
+-- Laws of runs that bound what a replica holds.
+use Rattle.std.specs.Prelude.{ℕ, ◌<◌, ◌≤◌, ◌^◌, List, length, Contains}
+use Rattle.spec_model.specs.declared.plan.Setup.{Setup}
+use Rattle.spec_model.specs.declared.spec.Spec.{Spec}
+use Rattle.spec_model.specs.declared.instance.Cell.{Cell}
+use Rattle.spec_model.specs.declared.right.Right.TheVariants as right
+use Rattle.spec_model.specs.Bounds.{KeepsBounds}
+use Rattle.spec_model.specs.Fits.{IsWellFormed}
+use Rattle.spec_model.specs.Universe.{cells, first_value}
+use Rattle.run_model.specs.declared.step.StepEntry.{StepEntry}
+use Rattle.run_model.specs.Locals.{Local, StandsIn}
+use Rattle.run_model.specs.Logs.{log_at}
+use Rattle.run_model.specs.Rights.{held_count}
+use Rattle.run_model.specs.Runs.{Runs}
+use Rattle.run_model.specs.Worlds.{World, first_world, logs_of}
+
+-- each cell begins within its bounds
+abbrev pub FirstsKeepBounds : Type 0
+FirstsKeepBounds = (spec : Spec) → IsWellFormed spec → KeepsBounds spec (first_value spec)
+
+-- where at most eight replicas log at most 2 ^ 22 items each, a number of 64 bits counts what one of them holds of the rights to lower a cell
+abbrev pub HoldsAreSmall : Type 0
+HoldsAreSmall = (setup : Setup) (entries : List StepEntry) (world : World) (me : ℕ) (l : Local) (cell : Cell)
+    → IsWellFormed setup.spec → setup.replicas ≤ 8 → 0 < setup.replicas → Runs setup (first_world setup.replicas) entries world → StandsIn world me l
+    → ((j : ℕ) → length (log_at (logs_of world) j) ≤ 4194304) → Contains (cells setup.spec) cell → held_count setup l.known me l.standing.log (right.Low cell) < 2 ^ 64
