@@ -1,0 +1,173 @@
+-- Nodes that have taken a whole schedule: their histories are those of a legal run of it.
+use Rattle.std.proofs.Common.{◌≡◌, ◌≢◌, ◌⊎◌, inl, inr, ℕ, zero, suc, ◌+◌, ◌*◌, ◌<◌, ◌≤◌, ◌^◌, Bool, true, false, cond, eqb, List, [], ◌∷◌, ◌++◌, length, take, refl, sym, ap, subst, ◌∙◌, arith}
+use Rattle.std.specs.Prelude.{slice_get, slice_index, slice_index_or, Some, None, Option, Result, Ok, Err, IfOk, map, Contains}
+use Rattle.ind_base.specs.declared.refusal.NoMemory.{NoMemory}
+use Rattle.std.specs.List.{AllByRecursion}
+use Rattle.std.proofs.lemmas.Bool.{ne_eqb, cases_lt}
+use Rattle.std.proofs.lemmas.Bool.Decides.{eqb_tells}
+use Rattle.std.proofs.lemmas.List.{length-map}
+use Rattle.std.proofs.lemmas.Option.{get_or_from_slice_get}
+use Rattle.spec_model.specs.declared.plan.Setup.{Setup}
+use Rattle.spec_model.specs.declared.instance.Cell.{Cell}
+use Rattle.spec_model.specs.declared.right.Right.TheVariants as right
+use Rattle.spec_model.specs.declared.log.LogItem.{LogItem}
+use Rattle.spec_model.specs.Fits.{IsWellFormed}
+use Rattle.spec_model.specs.Universe.{cells}
+use Rattle.run_model.specs.declared.message.Message.{Message}
+use Rattle.run_model.specs.declared.step.Order.{Order}
+use Rattle.run_model.specs.declared.step.StepEntry.{StepEntry}
+use Rattle.run_model.specs.declared.history.Final.{Final}
+use Rattle.run_model.specs.declared.history.History.{History}
+use Rattle.run_model.specs.Logs.{Logs, log_at}
+use Rattle.run_model.specs.Rights.{held_count}
+use Rattle.run_model.specs.Worlds.{Standing, World, logs_of}
+use Rattle.run_model.specs.Runs.{InOrder, asks_in, entries_at}
+use Rattle.run_model.specs.Balance.{RunsAreSound}
+use Rattle.run_model.specs.Finals.{final_of, lasts_from}
+use Rattle.run_model.specs.Locals.{FinalsAgree, Local, RunsInOrder, StandsIn}
+use Rattle.run_model.proofs.WorldLogs.{logs_there}
+use Rattle.run_trace.specs.Merging.{AreHistories, AreOf, IsMerged}
+use Rattle.causal_store.specs.Stores.{IsShort, logs_in}
+use Rattle.replica_core.specs.Laws.{FirstsKeepBounds, HoldsAreSmall}
+use Rattle.replica_core.specs.Replicas.{HasRoom, IsReplica, known_to, own_log, standing_of}
+use Rattle.request_workers.specs.declared.node.Node.{Node}
+use Rattle.request_workers.specs.Histories.{AreLegal}
+use Rattle.request_workers.specs.Nodes.{AreDone, AreRunning, IsNode, history_of, local_of, sendings_at}
+
+-- ---- a node at the end
+
+placed : (front : List Node) (node : Node) (behind : List Node) → slice_get (front ++ node ∷ behind) (length front) ≡ Some node
+placed [] node behind = refl
+placed (f ∷ front) node behind = placed front node behind
+
+-- the node behind those in front
+pub next_there : (nodes front left behind : List Node) (node : Node) → front ++ left ≡ nodes → left ≡ node ∷ behind → slice_get nodes (length front) ≡ Some node
+next_there nodes front left behind node all split = ap (λ (ns : List Node). slice_get ns (length front)) (sym all ∙ ap (λ (ns : List Node). front ++ ns) split) ∙ placed front node behind
+
+each_by_place : {X : Type 0} (P : X → Type 0) (xs : List X) → ((k : ℕ) (x : X) → slice_get xs k ≡ Some x → P x) → AllByRecursion P xs
+each_by_place P [] h = tt
+each_by_place P (x ∷ xs) h = (h 0 x refl, each_by_place P xs (λ k y is. h (suc k) y is))
+
+take_short : {X : Type 0} (n : ℕ) (xs : List X) → length (take n xs) ≤ length xs
+take_short zero [] = omega arith
+take_short (suc n) [] = omega arith
+take_short zero (x ∷ xs) = omega arith
+take_short (suc n) (x ∷ xs) = omega (arith, take_short n xs)
+
+-- what a node needs to show how it stands
+pub record CanShow (setup : Setup) (node : Node) : Type 0 where
+  pub own : IsReplica setup node.replica.me node.replica
+  pub room : HasRoom 0 node.replica
+  pub short : IsShort node.replica.store
+  pub small : (cell : Cell) → Contains (cells setup.spec) cell → held_count setup (known_to node.replica) node.replica.me (own_log node.replica) (right.Low cell) < 2 ^ 64
+
+pub can_show : (setup : Setup) (schedule : List Order) (nodes : List Node) (me : ℕ) (node : Node) → HoldsAreSmall → IsWellFormed setup.spec → 0 < setup.replicas → setup.replicas ≤ 8 → length schedule ≤ 100000 → AreDone setup schedule nodes → slice_get nodes me ≡ Some node
+    → CanShow setup node
+can_show setup schedule nodes me node law formed some few lines (links, h) is =
+    let at : IsNode setup (length schedule) h.entries h.world me node = h.each me node is in
+    let l : Local = local_of (sendings_at h.world me) node in
+    let logs : (j : ℕ) → length (log_at (logs_of h.world) j) ≤ 4194304 = λ j. omega (arith, h.short j, lines) in
+    let mine : me ≡ node.replica.me = sym at.own.me_is in
+    record {
+      own = subst (λ i. IsReplica setup i node.replica) mine at.own;
+      room = omega (arith, ap length (logs_there h.world me l.standing at.stands.is), h.short me, lines);
+      short = each_by_place (λ (log : List LogItem). length log ≤ 4194304) (logs_in node.replica.store) (λ j log there.
+          let log_is : log_at (known_to node.replica) j ≡ log = get_or_from_slice_get (known_to node.replica) j log [] there in
+          let cut : List LogItem = take (slice_index l.standing.cut j) (log_at (logs_of h.world) j) in
+          omega (arith, ap length log_is, ap length (at.stands.knows j), take_short (slice_index l.standing.cut j) (log_at (logs_of h.world) j), logs j));
+      small = λ cell among. subst (λ i. held_count setup (known_to node.replica) i (own_log node.replica) (right.Low cell) < 2 ^ 64) mine
+          (law setup h.entries h.world me l cell formed few some h.runs at.stands logs among);
+    }
+
+-- ---- the histories
+
+mapped : {X Y : Type 0} (f : X → Y) (xs : List X) (i : ℕ) (y : Y) → slice_get (map f xs) i ≡ Some y → (x : X) × (slice_get xs i ≡ Some x) × (y ≡ f x)
+mapped f [] i y is = absurd cc
+mapped f (x ∷ xs) zero y is = (x, refl, cc)
+mapped f (x ∷ xs) (suc i) y is = mapped f xs i y is
+
+get_map : {X Y : Type 0} (f : X → Y) (xs : List X) (k : ℕ) (x : X) → slice_get xs k ≡ Some x → slice_get (map f xs) k ≡ Some (f x)
+get_map f [] k x is = absurd cc
+get_map f (y ∷ xs) zero x is = let same : y ≡ x = cc in ap (λ z. Some (f z)) same
+get_map f (y ∷ xs) (suc k) x is = get_map f xs k x is
+
+some_at : {X : Type 0} (xs : List X) (k : ℕ) → k < length xs → (x : X) × (slice_get xs k ≡ Some x)
+some_at [] k lt = absurd (omega (arith, lt))
+some_at (x ∷ xs) zero lt = (x, refl)
+some_at (x ∷ xs) (suc k) lt = some_at xs k (omega (arith, lt))
+
+-- the entries of one replica are its own
+own_entries : (me : ℕ) (es : List StepEntry) → AreOf me (entries_at me es)
+own_entries me [] = tt
+own_entries me (e ∷ es) = elim (eqb_tells e.replica me) [
+  | inl same ↦ subst (AreOf me) (sym (ap (λ b. cond b (e ∷ entries_at me es) (entries_at me es)) same.0)) (same.1, own_entries me es)
+  | inr other ↦ subst (AreOf me) (sym (ap (λ b. cond b (e ∷ entries_at me es) (entries_at me es)) other.0)) (own_entries me es)
+]
+
+entries_none : (n me : ℕ) (es : List StepEntry) → n ≤ me → AllByRecursion (λ e. e.replica < n) es → entries_at me es ≡ []
+entries_none n me [] le below = refl
+entries_none n me (e ∷ es) le below = ap (λ b. cond b (e ∷ entries_at me es) (entries_at me es)) (ne_eqb e.replica me (λ is. absurd (omega (arith, le, below.0, is)))) ∙ entries_none n me es le below.1
+
+-- ---- the last states
+
+lasts_same : (setup : Setup) (logs : Logs) (k : ℕ) (nodes : List Node) (w : World) → length nodes ≡ length w
+    → ((i : ℕ) (node : Node) (p : Standing) → slice_get nodes i ≡ Some node → slice_get w i ≡ Some p → final_of setup (known_to node.replica) node.replica.me (standing_of 0 [] node.replica) ≡ final_of setup logs (k + i) p)
+    → map (λ (h : History). h.last) (map (history_of setup) nodes) ≡ lasts_from setup logs k w
+lasts_same setup logs k [] [] long same = refl
+lasts_same setup logs k [] (p ∷ w) long same = absurd (omega (arith, long))
+lasts_same setup logs k (node ∷ nodes) [] long same = absurd (omega (arith, long))
+lasts_same setup logs k (node ∷ nodes) (p ∷ w) long same =
+    ap (λ (f : Final). Some f ∷ map (λ (h : History). h.last) (map (history_of setup) nodes)) (same 0 node p refl refl ∙ ap (λ j. final_of setup logs j p) (omega arith))
+    ∙ ap (λ (fs : List (Option Final)). Some (final_of setup logs k p) ∷ fs)
+    (lasts_same setup logs (k + 1) nodes w (omega (arith, long)) (λ i other q is at. same (suc i) other q is at ∙ ap (λ j. final_of setup logs j q) (omega arith)))
+
+-- ---- one legal run
+
+pub legal : (setup : Setup) (schedule : List Order) (nodes : List Node) (histories : List History) → RunsAreSound → RunsInOrder → FinalsAgree → FirstsKeepBounds → IsWellFormed setup.spec → 0 < setup.replicas
+    → AreDone setup schedule nodes → histories ≡ map (history_of setup) nodes → AreLegal setup schedule histories
+legal setup schedule nodes histories sound order finals firsts formed some (links, h) are =
+    let n : ℕ = setup.replicas in
+    let shown : List History = map (history_of setup) nodes in
+    let long : length shown ≡ n = length-map nodes (history_of setup) ∙ h.whole in
+    subst (AreLegal setup schedule) (sym are) (record {
+      world = h.world;
+      whole = long;
+      own = record {
+        own = λ i history is.
+            let m = mapped (history_of setup) nodes i history is in
+            subst (λ (k : History). AreOf i k.entries) (sym m.2) (subst (AreOf i) (sym (h.each i m.0 m.1).entries_are) (own_entries i h.entries));
+        in_order = λ i history is.
+            let m = mapped (history_of setup) nodes i history is in
+            subst (λ (k : History). InOrder k.entries) (sym m.2) (h.each i m.0 m.1).in_order;
+      };
+      legal = λ sorted merged.
+          let below : AllByRecursion (λ e. e.replica < n) sorted = subst (λ k. AllByRecursion (λ (e : StepEntry). e.replica < k) sorted) long merged.below in
+          let same : (me : ℕ) → entries_at me sorted ≡ entries_at me h.entries = λ me. elim (cases_lt me n) [
+            | inl lt ↦
+                let at = some_at nodes me (omega (arith, lt, h.whole)) in
+                merged.each me (history_of setup at.0) (get_map (history_of setup) nodes me at.0 at.1) ∙ (h.each me at.0 at.1).entries_are
+            | inr le ↦ entries_none n me sorted le below ∙ sym (entries_none n me h.entries le h.within)
+          ] in
+          record {
+            runs = order setup h.entries sorted h.world h.runs merged.in_order below same;
+            in_order = merged.in_order;
+            asked = λ me. ap asks_in (same me) ∙ h.asked me;
+          };
+      sound = λ sorted merged k w runs. sound setup (take k sorted) w some (firsts setup.spec formed) runs;
+      lasts = lasts_same setup (logs_of h.world) 0 nodes h.world (h.whole ∙ sym h.world_whole) (λ i node p is at.
+          let here : IsNode setup (length schedule) h.entries h.world i node = h.each i node is in
+          let l : Local = local_of (sendings_at h.world i) node in
+          let stands : l.standing ≡ p = some_same l.standing p (sym here.stands.is ∙ at) in
+          ap (λ j. final_of setup (known_to node.replica) j (standing_of 0 [] node.replica)) here.own.me_is
+          ∙ finals setup h.entries h.world i l h.runs here.stands
+          ∙ ap (final_of setup (logs_of h.world) i) stands
+          ∙ ap (λ j. final_of setup (logs_of h.world) j p) (omega arith));
+    })
+  where
+    some_same : (p q : Standing) → Some p ≡ Some q → p ≡ q
+    some_same p q is = cc
+
+pub legal_if : (setup : Setup) (schedule : List Order) (nodes : List Node) (r : Result (List History) NoMemory) → RunsAreSound → RunsInOrder → FinalsAgree → FirstsKeepBounds → IsWellFormed setup.spec → 0 < setup.replicas
+    → AreDone setup schedule nodes → IfOk r (λ histories. histories ≡ map (history_of setup) nodes) → IfOk r (λ histories. AreLegal setup schedule histories)
+legal_if setup schedule nodes (Ok histories) sound order finals firsts formed some done are = legal setup schedule nodes histories sound order finals firsts formed some done are
+legal_if setup schedule nodes (Err e) sound order finals firsts formed some done are = tt

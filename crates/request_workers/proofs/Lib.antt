@@ -1,0 +1,6 @@
+pub mod Stepped
+pub mod Running
+pub mod Linked
+pub mod Ordered
+pub mod Begun
+pub mod Finished

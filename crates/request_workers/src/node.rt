@@ -1,0 +1,155 @@
+//! A replica with its stamp and its history.
+
+ghost use Rattle.std.specs.Prelude.{◌≡◌, ◌≢◌, ◌<◌, ◌≤◌, ◌^◌, ◌++◌, ◌∷◌, [], IfOk, OnOk, None, Some, Contains};
+ghost use Rattle.spec_model.specs.Fits.{InstFits, IsWellFormed};
+ghost use Rattle.spec_model.specs.Universe.{cells};
+ghost use Rattle.spec_model.specs.declared.instance.Cell.{Cell as CellOf};
+ghost use Rattle.spec_model.specs.declared.right.Right.TheVariants as right;
+ghost use Rattle.run_model.specs.declared.step.Ask.TheVariants as asks;
+ghost use Rattle.run_model.specs.Fitting.{MessageFits};
+ghost use Rattle.run_model.specs.Rights.{held_count};
+ghost use Rattle.causal_store.specs.Stores.{IsShort};
+ghost use Rattle.replica_core.specs.Replicas.{HasRoom, IsReplica, known_to, own_log};
+ghost use Rattle.replica_core.specs.Tables.{HasNoUpper};
+
+use ind_base::{List, NoMemory};
+use replica_core::Replica;
+use run_model::{Ask, History, Message, Outcome, StepEntry, push_entry};
+use spec_model::{Inst, Setup};
+use std::alloc::Global;
+
+/// A replica, the stamp of its last step, and the entries of its steps so far.
+#[derive(Debug, Drop)]
+pub(crate) struct Node {
+    pub(crate) replica: Replica,
+    pub(crate) stamp: u64,
+    pub(crate) entries: List<StepEntry>,
+}
+
+impl Node {
+    ghost use Rattle.request_workers.specs.Nodes.{CanStep, IsFirst, NodeSteps, history_of, sending_of};
+
+    /// A replica before its first step.
+    pub(crate) fn begin(alloc: Global, setup: &Setup, me: u32) -> Result<Node, NoMemory>
+        requires well_formed { IsWellFormed setup.now.spec }
+        requires place { me < setup.now.replicas }
+        requires few { setup.now.replicas ≤ 16 }
+        ensures { IfOk result (λ node. IsFirst setup.now me node) }
+    {
+        Ok(Node {
+            replica: Replica::begin(alloc, setup, me)?,
+            stamp: 0,
+            entries: List::new(alloc),
+        })
+    }
+
+    /// Notes what it did.
+    fn note(&mut self, stamp: u64, ask: Ask, outcome: Outcome) -> Result<(), NoMemory>
+        ensures { OnOk result (self.new ≡ record self.old { stamp = stamp; entries = self.old.entries ++ (record { stamp = stamp; replica = self.old.replica.me; ask = ask; outcome = outcome }) ∷ [] }) }
+    {
+        self.stamp = stamp;
+        let entry = StepEntry {
+            stamp,
+            replica: self.replica.me(),
+            ask,
+            outcome,
+        };
+        push_entry(&mut self.entries, entry)
+    }
+
+    /// Answers a request.
+    pub(crate) fn request(
+        &mut self,
+        alloc: Global,
+        setup: &Setup,
+        inst: &Inst,
+    ) -> Result<(), NoMemory>
+        requires well_formed { IsWellFormed setup.now.spec }
+        requires lower { HasNoUpper setup.now.spec }
+        requires can { CanStep setup.now self.old }
+        requires fits { InstFits setup.now.spec inst.now }
+        ensures { OnOk result (NodeSteps setup.now (asks.Do inst.now) None [] self.old self.new) }
+    {
+        let outcome = self.replica.request(alloc, setup, inst)?;
+        self.note(self.stamp + 1, Ask::Do(*inst), outcome)
+    }
+
+    /// Sends a message, the one with this number to this replica.
+    pub(crate) fn send(
+        &mut self,
+        alloc: Global,
+        setup: &Setup,
+        to: u32,
+        number: u32,
+    ) -> Result<Message, NoMemory>
+        requires well_formed { IsWellFormed setup.now.spec }
+        requires few { setup.now.replicas ≤ 16 }
+        requires can { CanStep setup.now self.old }
+        requires other { to ≢ self.old.replica.me }
+        requires place { to < setup.now.replicas }
+        ensures steps { IfOk result (λ m. NodeSteps setup.now (asks.Send to (Some number)) None (sending_of m ∷ []) self.old self.new) }
+        ensures fits { IfOk result (λ m. MessageFits setup.now.spec setup.now.replicas to m) }
+        ensures from { IfOk result (λ m. m.from ≡ self.old.replica.me) }
+        ensures to { IfOk result (λ m. m.to ≡ to) }
+        ensures stamp { IfOk result (λ m. m.stamp ≡ self.new.stamp) }
+    {
+        let stamp = self.stamp + 1;
+        let message = self.replica.send(alloc, setup, to, number, stamp)?;
+        let outcome = Outcome::Sent {
+            number,
+            entries: message.items.len() as u32,
+            wants: message.wants.len() as u32,
+        };
+        let ask = Ask::Send {
+            to,
+            number: Some(number),
+        };
+        self.note(stamp, ask, outcome)?;
+        Ok(message)
+    }
+
+    /// Takes a message, the one with this number from this replica.
+    pub(crate) fn take(
+        &mut self,
+        alloc: Global,
+        setup: &Setup,
+        number: u32,
+        message: &Message,
+    ) -> Result<(), NoMemory>
+        requires well_formed { IsWellFormed setup.now.spec }
+        requires can { CanStep setup.now self.old }
+        requires fits { MessageFits setup.now.spec setup.now.replicas self.old.replica.me message.now }
+        requires stamp { message.now.stamp < 2 ^ 63 }
+        ensures { OnOk result (NodeSteps setup.now (asks.Take message.now.from (Some number)) (Some (sending_of message.now)) [] self.old self.new) }
+    {
+        let outcome = self.replica.take(alloc, setup, message)?;
+        let ask = Ask::Take {
+            from: message.from,
+            number: Some(number),
+        };
+        self.note(self.stamp.max(message.stamp) + 1, ask, outcome)
+    }
+
+    /// What it did, and how it stands at the end.
+    pub(crate) fn finish(self, alloc: Global, setup: &Setup) -> Result<History, NoMemory>
+        requires well_formed { IsWellFormed setup.now.spec }
+        requires lower { HasNoUpper setup.now.spec }
+        requires own { IsReplica setup.now self.replica.me self.replica }
+        requires room { HasRoom 0 self.replica }
+        requires short { IsShort self.replica.store }
+        requires small { (cell : CellOf) → Contains (cells setup.now.spec) cell → held_count setup.now (known_to self.replica) self.replica.me (own_log self.replica) (right.Low cell) < 2 ^ 64 }
+        ensures { IfOk result (λ history. history ≡ history_of setup.now self) }
+    {
+        let Node {
+            replica,
+            entries,
+            ..
+        } = self;
+        let last = replica.last(alloc, setup)?;
+        Ok(History {
+            replica: replica.me(),
+            entries,
+            last: Some(last),
+        })
+    }
+}
