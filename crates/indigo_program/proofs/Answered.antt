@@ -1,15 +1,21 @@
 -- The answers of the program, and why they are complete.
-use Rattle.std.proofs.Common.{◌≡◌, ◌⊎◌, inl, inr, ℕ, ◌+◌, ◌<◌, ◌≤◌, List, [], ◌∷◌, ◌++◌, length, take, drop, refl, sym, ap, subst, ◌∙◌, arith}
+use Rattle.std.proofs.Common.{◌≡◌, inl, inr, ℕ, ◌+◌, ◌≤◌, List, [], ◌∷◌, ◌++◌, length, take, drop, refl, sym, ap, subst, ◌∙◌, arith}
 use Rattle.std.specs.Prelude.{Option, Some, None, Result, Ok, Err, IsErrOf, codes}
-use Rattle.std.specs.Io.KnownBytes.{Appends, Consumes, IsAtEnd, Keeps}
+use Rattle.std.specs.Io.KnownBytes.{Appends, Consumes, IsAtEnd}
 use Rattle.std.proofs.lemmas.List.{append-nil, take-append-drop, length-append}
-use Rattle.ind_io.specs.Causes.{Rose}
 use Rattle.ind_io.specs.Streams.{ConsumesJust}
-use Rattle.counter_document.specs.Reading.{document_of as counter_of}
+use Rattle.line_text.specs.declared.cause.Cause.{Cause}
+use Rattle.line_text.specs.Lines.{lines_of}
+use Rattle.run_model.specs.declared.step.Order.{Order}
+use Rattle.scenario_text.specs.declared.document.Document.{Document}
+use Rattle.scenario_text.specs.declared.document.Work.{Work}
+use Rattle.scenario_text.specs.declared.document.Work.TheVariants as works
+use Rattle.scenario_text.specs.Groups.{unbuilt_words, first_line}
 use Rattle.scenario_text.specs.Reading.{document_of}
 use Rattle.indigo_program.specs.declared.command.Command.{Command}
 use Rattle.indigo_program.specs.declared.command.Command.TheVariants as commands
-use Rattle.indigo_program.specs.Headline.{Stream, Failed, WasRead, IsNamed, IsReply, IsAnswerTo, IsAnswered, IsComplete, IsOwed, OwedTo, OwedBy, input_limit}
+use Rattle.indigo_program.specs.Headline.{Stream, Failed, WasRead, IsNamed, IsReply, IsAnswerTo, IsAnswered, IsComplete, IsOwed, IsOwedBy, Makes, input_limit}
+use Rattle.indigo_program.specs.Inputs.{IsOfClients, Refuses, Takes}
 use Rattle.indigo_program.specs.Finishing.{Finishes}
 
 pub err_is : {T E : Type 0} (x e : E) → x ≡ e → IsErrOf {T = T} {E = E} (Err x) e
@@ -72,11 +78,41 @@ read_told source told P is h =
     let same = all_read source.before source.after told h.bytes is h.all h.end in
     (subst P same h.holds, subst (λ (b : List ℕ). length b ≤ input_limit) same h.short)
 
-owed_answer : (command : Command) (bytes text : List ℕ) (status : ℕ) → IsAnswerTo command bytes status text → OwedBy command bytes status
-owed_answer commands.Simulate bytes text status (inl refused) = subst (λ r. OwedTo r status) (sym refused.1.read) (inl refused.0)
-owed_answer commands.Simulate bytes text status (inr traced) = subst (λ r. OwedTo r status) (sym traced.1.read) (inl traced.0)
-owed_answer commands.Print bytes text status (inl refused) = subst (λ r. OwedTo r status) (sym refused.1.read) (inl refused.0)
-owed_answer commands.Print bytes text status (inr printed) = subst (λ r. OwedTo r status) (sym printed.1.read) (inl printed.0)
+-- a text isn't both a document and refused
+both_read : {D E : Type 0} (r : Result D E) (d : D) (e : E) → r ≡ Ok d → r ≡ Err e → ⊥
+both_read r d e is bad = absurd (let both = sym is ∙ bad in cc)
+
+one_document : {D E : Type 0} (r : Result D E) (a b : D) → r ≡ Ok a → r ≡ Ok b → a ≡ b
+one_document r a b first second = let both = sym first ∙ second in cc
+
+no_clients : (work : Work) (orders : List Order) → work ≡ works.Schedule orders → IsOfClients work → ⊥
+no_clients (works.Schedule given) orders is clients = clients
+no_clients (works.Clients turns homes asks) orders is clients = absurd cc
+
+both_first : (first : Option ℕ) (line : ℕ) → first ≡ Some line → first ≡ None → ⊥
+both_first first line some none = absurd (let both = sym some ∙ none in cc)
+
+-- a command takes no input of which it refuses a line
+taken_whole : (command : Command) (bytes : List ℕ) (line : ℕ) (cause : Cause) → Refuses command bytes line cause → Takes command bytes → ⊥
+taken_whole commands.Simulate bytes line cause (inl bad) (d, orders, run) = both_read (document_of bytes) d (line, cause) run.read bad
+taken_whole commands.Simulate bytes line cause (inr (inl out)) (d, orders, run) =
+    no_clients out.document.work orders (ap (λ (x : Document). x.work) (one_document (document_of bytes) out.document d out.read run.read) ∙ run.schedule) out.clients
+taken_whole commands.Simulate bytes line cause (inr (inr word)) (d, orders, run) = both_first (first_line unbuilt_words (lines_of bytes)) line word.first run.built
+taken_whole commands.Print bytes line cause bad (d, read) = both_read (document_of bytes) d (line, cause) read bad
+
+makes_taken : (command : Command) (bytes text : List ℕ) → Makes command bytes text → Takes command bytes
+makes_taken commands.Simulate bytes text trace = (trace.document, trace.orders, trace.taken)
+makes_taken commands.Print bytes text printed = (printed.document, printed.read)
+
+owed_answer : (command : Command) (bytes text : List ℕ) (status : ℕ) → IsAnswerTo command bytes status text → IsOwedBy command bytes status
+owed_answer command bytes text status (inl (is, refused)) = record {
+  taken = λ takes. absurd (taken_whole command bytes refused.line refused.cause refused.refused takes);
+  other = λ no. inl is;
+}
+owed_answer command bytes text status (inr (is, made)) = record {
+  taken = λ takes. inl is;
+  other = λ no. absurd (no (makes_taken command bytes text made));
+}
 
 owed_reply : (words : List (List ℕ)) (source : Stream) (told text : List ℕ) (status : ℕ) → source.before ≡ Some told → (Failed source → ⊥) → IsReply words source status text → IsOwed words told status
 owed_reply words source told text status is whole (inl bad) = record {
@@ -97,16 +133,8 @@ owed_reply words source told text status is whole (inr (command, named, inr (inr
     record {
       other_words = λ other. absurd (other command named);
       long = λ again named' more. absurd (omega (arith, h.1, more));
-      short = λ again named' within. subst (λ c. OwedBy c told status) (one_command words command again named named') (owed_answer command told text status h.0);
+      short = λ again named' within. subst (λ c. IsOwedBy c told status) (one_command words command again named named') (owed_answer command told text status h.0);
     }
-
-owed_memory : (D E : Type 0) (r : Result D E) (status : ℕ) → status ≡ 9 → OwedTo r status
-owed_memory D E (Ok document) status is = inr is
-owed_memory D E (Err refused) status is = inr is
-
-owed_by_memory : (command : Command) (bytes : List ℕ) (status : ℕ) → status ≡ 9 → OwedBy command bytes status
-owed_by_memory commands.Simulate bytes status is = owed_memory _ _ (counter_of bytes) status is
-owed_by_memory commands.Print bytes status is = owed_memory _ _ (document_of bytes) status is
 
 pub complete : (words : List (List ℕ)) (source sink : Stream) (status : ℕ) → IsAnswered words source sink status → IsComplete words source sink status
 complete words source sink status (inl written) = λ told is whole out. owed_reply words source told written.text status is whole written.reply
@@ -114,7 +142,7 @@ complete words source sink status (inr (inl cut)) = λ told is whole out. absurd
 complete words source sink status (inr (inr memory)) = λ told is whole out. record {
   other_words = λ other. absurd (other memory.1.0 memory.1.1);
   long = λ command named more. inr memory.0;
-  short = λ command named within. owed_by_memory command told status memory.0;
+  short = λ command named within. record { taken = λ takes. inr memory.0; other = λ no. inr memory.0 };
 }
 
 -- ---- words

@@ -1,6 +1,3 @@
 pub mod Lines
-pub mod Keeping
-pub mod Running
-pub mod Legal
-pub mod Traced
+pub mod Runs
 pub mod Answered

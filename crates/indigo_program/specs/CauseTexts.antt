@@ -1,5 +1,5 @@
--- How a cause is written.
-use Rattle.std.specs.Prelude.{ℕ, List, codes}
+-- How a refused line is written.
+use Rattle.std.specs.Prelude.{ℕ, List, [], ◌∷◌, ◌++◌, codes, decimal}
 use Rattle.line_text.specs.declared.cause.Cause.{Cause}
 use Rattle.line_text.specs.declared.cause.Cause.TheVariants as causes
 
@@ -16,3 +16,7 @@ cause_text causes.OutOfRange = codes "out of range"
 cause_text causes.TooMany = codes "too many"
 cause_text causes.FalseAtStart = codes "false at start"
 cause_text causes.ReplicasMissing = codes "replicas missing"
+
+-- a refused line, and why
+abbrev pub refusal_text : ℕ → Cause → List ℕ
+refusal_text line cause = codes "line " ++ decimal line ++ codes ": " ++ cause_text cause ++ 10 ∷ []

@@ -1,5 +1,5 @@
 -- What the program answers.
-use Rattle.std.specs.Prelude.{◌≡◌, ◌⊎◌, ℕ, ◌+◌, ◌≤◌, ◌<◌, List, [], ◌∷◌, ◌++◌, length, codes, decimal, Result, Ok, Err, Some}
+use Rattle.std.specs.Prelude.{◌≡◌, ◌⊎◌, ℕ, ◌+◌, ◌≤◌, ◌<◌, List, [], ◌∷◌, ◌++◌, length, codes, Ok, Some}
 use Rattle.std.specs.declared.option.Option.{Option}
 use Rattle.std.specs.Io.KnownBytes.{Appends, Consumes, IsAtEnd, Keeps}
 use Rattle.ind_io.specs.Causes.{Rose}
@@ -12,15 +12,14 @@ use Rattle.run_model.specs.Worlds.{World}
 use Rattle.run_model.specs.Runs.{IsLegal}
 use Rattle.run_model.specs.Balance.{AtEachStep, IsSound}
 use Rattle.run_model.specs.Trace.{trace_text}
-use Rattle.counter_document.specs.declared.document.Document.{Document}
-use Rattle.counter_document.specs.Reading.{document_of as counter_of}
 use Rattle.line_text.specs.declared.cause.Cause.{Cause}
-use Rattle.scenario_text.specs.declared.document.Document.{Document as WholeDocument}
+use Rattle.scenario_text.specs.declared.document.Document.{Document}
 use Rattle.scenario_text.specs.Reading.{document_of}
 use Rattle.scenario_text.specs.Saying.{document_text}
 use Rattle.indigo_program.specs.declared.command.Command.{Command}
 use Rattle.indigo_program.specs.declared.command.Command.TheVariants as commands
-use Rattle.indigo_program.specs.CauseTexts.{cause_text}
+use Rattle.indigo_program.specs.CauseTexts.{refusal_text}
+use Rattle.indigo_program.specs.Inputs.{IsRunnable, Takes, Refuses}
 
 -- a plan without reservations
 abbrev pub no_plan : Plan
@@ -38,30 +37,30 @@ pub record IsLegalTrace (setup : Setup) (schedule : List Order) (text : List ℕ
   pub sound : AtEachStep setup entries (IsSound setup)
   pub written : text ≡ trace_text setup entries world
 
--- the bytes are a document with one counter, and the text is the trace of a legal run of it
+-- the bytes are a document that can be run, and the text is the trace of a legal run of it
 pub record IsTrace (bytes text : List ℕ) : Type 0 where
   pub document : Document
-  pub read : counter_of bytes ≡ Ok document
-  pub trace : IsLegalTrace (setup_of document) document.schedule text
-
--- the bytes are no such document, and the text names the first line that is refused
-pub record IsRefusal (bytes text : List ℕ) : Type 0 where
-  pub line : ℕ
-  pub read : counter_of bytes ≡ Err line
-  pub written : text ≡ codes "line " ++ decimal line ++ codes ": unknown line\n"
+  pub orders : List Order
+  pub taken : IsRunnable bytes document orders
+  pub trace : IsLegalTrace (setup_of document) orders text
 
 -- the bytes are a document, and the text is its canonical one
 pub record IsPrinted (bytes text : List ℕ) : Type 0 where
-  pub document : WholeDocument
+  pub document : Document
   pub read : document_of bytes ≡ Ok document
   pub written : text ≡ document_text document
 
--- the bytes are no document, and the text names the first line that is refused, and its first cause
-pub record IsRefused (bytes text : List ℕ) : Type 0 where
+-- what a command makes of an input that it takes
+abbrev pub Makes : Command → List ℕ → List ℕ → Type 0
+Makes commands.Simulate bytes text = IsTrace bytes text
+Makes commands.Print bytes text = IsPrinted bytes text
+
+-- the text names the line that the command refuses, and why
+pub record IsRefused (command : Command) (bytes text : List ℕ) : Type 0 where
   pub line : ℕ
   pub cause : Cause
-  pub read : document_of bytes ≡ Err (line, cause)
-  pub written : text ≡ codes "line " ++ decimal line ++ codes ": " ++ cause_text cause ++ 10 ∷ []
+  pub refused : Refuses command bytes line cause
+  pub written : text ≡ refusal_text line cause
 
 -- the most bytes of an input
 abbrev pub input_limit : ℕ
@@ -93,8 +92,7 @@ IsNamed words commands.Print = words ≡ codes "print" ∷ []
 
 -- the status and the text that a command has for an input
 abbrev pub IsAnswerTo : Command → List ℕ → ℕ → List ℕ → Type 0
-IsAnswerTo commands.Simulate bytes status text = ((status ≡ 3) × IsRefusal bytes text) ⊎ ((status ≡ 0) × IsTrace bytes text)
-IsAnswerTo commands.Print bytes status text = ((status ≡ 3) × IsRefused bytes text) ⊎ ((status ≡ 0) × IsPrinted bytes text)
+IsAnswerTo command bytes status text = ((status ≡ 3) × IsRefused command bytes text) ⊎ ((status ≡ 0) × Makes command bytes text)
 
 -- the status and the text for an input that came: it failed, was too long, or was read
 abbrev pub IsReplyOf : Command → Stream → ℕ → List ℕ → Type 0
@@ -133,21 +131,16 @@ IsAnswered words source sink status =
     ⊎ ((status ≡ 5) × IsCutOff words source sink)
     ⊎ ((status ≡ 9) × ((command : Command) × IsNamed words command) × Keeps sink.before sink.after)
 
--- what is owed to a text that is a document or not: 0 or 3, or want of memory
-abbrev pub OwedTo : {D E : Type 0} → Result D E → ℕ → Type 0
-OwedTo (Ok document) status = (status ≡ 0) ⊎ (status ≡ 9)
-OwedTo (Err refused) status = (status ≡ 3) ⊎ (status ≡ 9)
-
--- by the documents that the command takes
-abbrev pub OwedBy : Command → List ℕ → ℕ → Type 0
-OwedBy commands.Simulate bytes status = OwedTo (counter_of bytes) status
-OwedBy commands.Print bytes status = OwedTo (document_of bytes) status
+-- what is owed to an input: 0 where the command takes it, else 3, or want of memory
+pub record IsOwedBy (command : Command) (bytes : List ℕ) (status : ℕ) : Type 0 where
+  pub taken : Takes command bytes → (status ≡ 0) ⊎ (status ≡ 9)
+  pub other : (Takes command bytes → ⊥) → (status ≡ 3) ⊎ (status ≡ 9)
 
 -- the answer that is owed to an input that the source tells, where nothing fails: by its words, its length and its lines
 pub record IsOwed (words : List (List ℕ)) (bytes : List ℕ) (status : ℕ) : Type 0 where
   pub other_words : ((command : Command) → IsNamed words command → ⊥) → status ≡ 2
   pub long : (command : Command) → IsNamed words command → input_limit < length bytes → (status ≡ 6) ⊎ (status ≡ 9)
-  pub short : (command : Command) → IsNamed words command → length bytes ≤ input_limit → OwedBy command bytes status
+  pub short : (command : Command) → IsNamed words command → length bytes ≤ input_limit → IsOwedBy command bytes status
 
 abbrev pub IsComplete : List (List ℕ) → Stream → Stream → ℕ → Type 0
 IsComplete words source sink status =

@@ -1,4 +1,4 @@
-pub mod Nodes
 pub mod CauseTexts
+pub mod Inputs
 pub mod Headline
 pub mod Finishing

@@ -3,9 +3,7 @@
 #![tactic(auto)]
 
 mod command;
-mod node;
 mod reply;
-mod simulation;
 mod top;
 mod words;
 

@@ -1,17 +1,25 @@
 //! What each command answers to an input that was read.
 
-ghost use Rattle.std.specs.Prelude.{◌≡◌, ◌≤◌, ◌∷◌, [], ◌++◌, IfOk, OnOk, codes, decimal, length};
-ghost use Rattle.counter_document.specs.WellFormed.{IsWellFormed};
-ghost use Rattle.indigo_program.specs.CauseTexts.{cause_text};
-ghost use Rattle.indigo_program.specs.Headline.{IsAnswerTo, IsLegalTrace, input_limit, setup_of};
+ghost use Rattle.std.specs.Prelude.{◌≡◌, ◌<◌, ◌≤◌, ◌++◌, IfOk, Ok, OnOk, codes, length};
+ghost use Rattle.std.specs.List.{AllByRecursion};
+ghost use Rattle.spec_model.specs.Fits.{IsWellFormed};
+ghost use Rattle.replica_core.specs.Tables.{HasNoUpper};
+ghost use Rattle.scenario_text.specs.Built.{StaysUp};
+ghost use Rattle.scenario_text.specs.Reading.{document_of};
+ghost use Rattle.scenario_text.specs.WellFormed.{IsWellFormedDocument, ScheduleFits};
+ghost use Rattle.indigo_program.specs.CauseTexts.{cause_text, refusal_text};
+ghost use Rattle.indigo_program.specs.Headline.{IsAnswerTo, IsLegalTrace, input_limit, no_plan};
 ghost use Rattle.indigo_program.specs.declared.command.Command.TheVariants as commands;
 
 use crate::command::Command;
-use crate::simulation::simulate;
-use counter_document::{Document, ReadError, read_document};
 use ind_base::{List, NoMemory, put_num};
-use scenario_text::{Cause, ParseError, parse_document, print_document};
-use spec_model::{Plan, Setup};
+use request_workers::simulate;
+use run_model::Order;
+use run_trace::trace_text;
+use scenario_text::{
+    Cause, Document, Group, ParseError, Work, first_of, parse_document, print_document,
+};
+use spec_model::{Plan, Setup, Spec};
 use std::alloc::Global;
 
 /// A status and a text.
@@ -40,29 +48,29 @@ fn put_cause(out: &mut List<u8>, cause: Cause) -> Result<(), NoMemory>
     }
 }
 
-/// Says which line is refused, and why.
-fn refusal(alloc: Global, line: u64, cause: Cause) -> Result<List<u8>, NoMemory>
-    ensures { IfOk result (λ text. text ≡ codes "line " ++ decimal line ++ codes ": " ++ cause_text cause ++ 10 ∷ []) }
+/// Refuses a line.
+fn refused(alloc: Global, line: u32, cause: Cause) -> Result<Reply, NoMemory>
+    ensures { IfOk result (λ reply. (reply.status ≡ 3) × (reply.text ≡ refusal_text line cause)) }
 {
     let mut text = List::new(alloc);
     text.extend(b"line ")?;
-    put_num(&mut text, line)?;
+    put_num(&mut text, u64::from(line))?;
     text.extend(b": ")?;
     put_cause(&mut text, cause)?;
     text.push(b'\n')?;
-    Ok(text)
+    Ok(Reply { status: 3, text })
 }
 
-/// Runs the replicas of a document.
-fn trace(alloc: Global, document: Document) -> Result<List<u8>, NoMemory>
-    requires { IsWellFormed document }
-    ensures { IfOk result (λ text. IsLegalTrace (setup_of document) document.schedule text) }
+/// The trace of replicas on a schedule.
+fn trace(alloc: Global, spec: Spec, replicas: u32, orders: &[Order]) -> Result<List<u8>, NoMemory>
+    requires well_formed { IsWellFormed spec }
+    requires lower { HasNoUpper spec }
+    requires some { 0 < replicas }
+    requires few { replicas ≤ 8 }
+    requires schedule { ScheduleFits spec replicas orders.now }
+    requires up { AllByRecursion (λ order. StaysUp order.ask) orders.now }
+    ensures { IfOk result (λ text. IsLegalTrace (record { spec = spec; plan = no_plan; replicas = replicas }) orders.now text) }
 {
-    let Document {
-        spec,
-        replicas,
-        schedule,
-    } = document;
     let plan = Plan {
         locks: List::new(alloc),
         masks: List::new(alloc),
@@ -73,22 +81,46 @@ fn trace(alloc: Global, document: Document) -> Result<List<u8>, NoMemory>
         plan,
         replicas,
     };
-    simulate(alloc, &setup, schedule.as_slice())
+    let histories = simulate(alloc, &setup, orders)?;
+    trace_text(alloc, &setup.spec, histories.as_slice())
+}
+
+/// Runs a document, or refuses a line of it that isn't run.
+fn run(alloc: Global, bytes: &[u8], document: Document) -> Result<Reply, NoMemory>
+    requires read { document_of bytes.now ≡ Ok document }
+    requires formed { IsWellFormedDocument document }
+    requires short { length bytes.now ≤ input_limit }
+    ensures { IfOk result (λ reply. IsAnswerTo commands.Simulate bytes.now reply.status reply.text) }
+{
+    let Document {
+        spec,
+        replicas,
+        stops: _,
+        work,
+    } = document;
+    match work {
+        Work::Clients { .. } => match first_of(bytes, Group::Clients) {
+            Some(line) => refused(alloc, line, Cause::OutOfPlace),
+            None => unreachable!(),
+        },
+        Work::Schedule(orders) => match first_of(bytes, Group::Unbuilt) {
+            Some(line) => refused(alloc, line, Cause::UnknownLine),
+            None => Ok(Reply {
+                status: 0,
+                text: trace(alloc, spec, replicas, orders.as_slice())?,
+            }),
+        },
+    }
 }
 
 fn simulated(alloc: Global, bytes: &[u8]) -> Result<Reply, NoMemory>
+    requires { length bytes.now ≤ input_limit }
     ensures { IfOk result (λ reply. IsAnswerTo commands.Simulate bytes.now reply.status reply.text) }
 {
-    match read_document(alloc, bytes) {
-        Ok(document) => Ok(Reply {
-            status: 0,
-            text: trace(alloc, document)?,
-        }),
-        Err(ReadError::BadLine { line }) => Ok(Reply {
-            status: 3,
-            text: refusal(alloc, line, Cause::UnknownLine)?,
-        }),
-        Err(ReadError::Memory) => Err(NoMemory),
+    match parse_document(alloc, bytes) {
+        Ok(document) => run(alloc, bytes, document),
+        Err(ParseError::BadLine { line, cause }) => refused(alloc, line, cause),
+        Err(ParseError::Memory) => Err(NoMemory),
     }
 }
 
@@ -101,10 +133,7 @@ fn printed(alloc: Global, bytes: &[u8]) -> Result<Reply, NoMemory>
             status: 0,
             text: print_document(alloc, &document)?,
         }),
-        Err(ParseError::BadLine { line, cause }) => Ok(Reply {
-            status: 3,
-            text: refusal(alloc, u64::from(line), cause)?,
-        }),
+        Err(ParseError::BadLine { line, cause }) => refused(alloc, line, cause),
         Err(ParseError::Memory) => Err(NoMemory),
     }
 }

@@ -24,11 +24,13 @@ fn finish<K: Sink>(sink: &mut K, text: &[u8], status: u8) -> u8
 
 /// Reads an input to its end, decides and writes the answer, whose status it returns.
 ///
-/// `simulate` takes a document with one counter and prints the trace of its replicas on its schedule;
-/// `print` takes a document of the whole language and prints its canonical text (0). Other words are
-/// answered `bad words` (2), a text that is no document by its first refused line (3), a source that
-/// fails by `read fault` (4), and more than 4,194,304 bytes by `input too long` (6). A sink that
-/// fails is 5, with a front of the text out. Want of memory is 9, and nothing is written.
+/// `print` takes a document and prints its canonical text; `simulate` takes a document with a
+/// schedule, or with no work, and prints the trace of its replicas (0). Other words are answered
+/// `bad words` (2), and a text that is no document by its first refused line (3). So does `simulate`
+/// refuse the first line about clients as `out of place`, and in other documents the first line with
+/// a word that it doesn't run yet as `unknown line`. A source that fails is answered `read fault`
+/// (4), and more than 4,194,304 bytes `input too long` (6). A sink that fails is 5, with a front of
+/// the text out. Want of memory is 9, and nothing is written.
 pub fn tool<S: Source, K: Sink>(alloc: Global, words: &[String], source: &mut S, sink: &mut K) -> u8
     ensures answered { IsAnswered (map string_bytes words.now)
         (record { before = S.left source.old; after = S.left source.new; faults_before = S.faults source.old; faults_after = S.faults source.new })

@@ -90,6 +90,16 @@ fn entries_stand_by_stamp_and_then_replica(rt: HostRuntime) -> Result<(), Fail> 
 }
 
 #[test]
+fn a_right_that_is_wanted_comes_back(rt: HostRuntime) -> Result<(), Fail> {
+    let body =
+        "do 0 buy()\ndo 0 buy()\ndo 0 buy()\nsend 0 1\ntake 1 0 0\nsend 1 0\ntake 0 1 0\ntake 0 1 0\ndo 0 buy()\n";
+    let text =
+        "1 r0 do buy() : done 0\n2 r0 do buy() : done 1\n3 r0 do buy() : short low stock() need 1 have 0\n4 r0 send r1 0 : entries 2 wants 1\n5 r1 take r0 0 : applied 2 accepted 0 gave 1\n6 r1 send r0 0 : entries 1 wants 0\n7 r0 take r1 0 : applied 1 accepted 1 gave 0\n8 r0 take r1 0 : applied 0 accepted 0 gave 0\n9 r0 do buy() : done 3\nr0 cut 4 1\nr0 num stock() 0\nr1 cut 2 1\nr1 num stock() 1\n";
+    assert!(rt; answers(rt.alloc(), STOCK, body, 0, text)?);
+    Ok(())
+}
+
+#[test]
 fn a_stock_of_nothing_and_no_schedule(rt: HostRuntime) -> Result<(), Fail> {
     let alloc = rt.alloc();
     let one = "num stock() init 3 min 0\nop buy()\nsub 1 stock()\nreplicas 1\n";
@@ -208,52 +218,24 @@ fn other_words_are_bad(rt: HostRuntime) -> Result<(), Fail> {
 }
 
 #[test]
-fn the_first_refused_line_is_named(rt: HostRuntime) -> Result<(), Fail> {
+fn what_is_not_run_is_refused_at_its_first_line(rt: HostRuntime) -> Result<(), Fail> {
     let alloc = rt.alloc();
     let refused = [
-        ("", "line 1: unknown line\n"),
-        ("\n# nothing\n", "line 3: unknown line\n"),
-        ("num stock() init 3 min 4\n", "line 1: unknown line\n"),
-        ("num stock() init 3\n", "line 1: unknown line\n"),
-        ("num stock() init 03 min 0\n", "line 1: unknown line\n"),
+        ("", "line 1: replicas missing\n"),
+        ("num a() init 3 min 4\n", "line 1: false at start\n"),
         (
-            "num stock() init 1000000000001 min 0\n",
+            "num a() init 3 max 3\nreplicas 1\n",
             "line 1: unknown line\n",
         ),
-        ("num max() init 3 min 0\n", "line 1: unknown line\n"),
         (
-            "num a() init 3 min 0\nnum b() init 3 min 0\n",
-            "line 2: unknown line\n",
-        ),
-        ("num a() init 3 min 0\nop a()\n", "line 2: unknown line\n"),
-        (
-            "num a() init 3 min 0\nsub 1 a()\n",
-            "line 2: unknown line\n",
-        ),
-        ("op f()\nsub 1 a()\n", "line 2: unknown line\n"),
-        (
-            "num a() init 3 min 0\nop f()\nsub 0 a()\n",
+            "# max\nop f()\nfree f f\nreplicas 1\n",
             "line 3: unknown line\n",
         ),
+        ("op f()\nfree f f\nreplicas 0\n", "line 3: out of range\n"),
         (
-            "num a() init 3 min 0\nop f()\nsub 1000000001 a()\n",
-            "line 3: unknown line\n",
+            "op f()\nfree f f\nreplicas 1\n# ask\nturns 0\n",
+            "line 5: out of place\n",
         ),
-        (
-            "num a() init 3 min 0\nop f()\nadd 1 a()\n",
-            "line 3: unknown line\n",
-        ),
-        ("op f(a:s)\n", "line 1: unknown line\n"),
-        ("op f()\nreplicas 0\n", "line 2: unknown line\n"),
-        ("op f()\nreplicas 3\n", "line 2: unknown line\n"),
-        ("op f()\nreplicas 2\nreplicas 2\n", "line 3: unknown line\n"),
-        ("op f()\nreplicas 2\nop g()\n", "line 3: unknown line\n"),
-        ("op f()\nreplicas 2\ndo 2 f()\n", "line 3: unknown line\n"),
-        ("op f()\nreplicas 2\ndo 0 g()\n", "line 3: unknown line\n"),
-        ("op f()\nreplicas 2\ndo 0 f(1)\n", "line 3: unknown line\n"),
-        ("op f()\nreplicas 2\ncrash 0\n", "line 3: unknown line\n"),
-        ("op f() # \u{e9}\nreplicas 2\n", "line 1: unknown line\n"),
-        ("sort s 2\n", "line 1: unknown line\n"),
     ];
     for (input, text) in refused.iter() {
         assert!(rt; answers(alloc, input, "", 3, text)?, "{input}");

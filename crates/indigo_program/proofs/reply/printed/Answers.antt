@@ -1,4 +1,4 @@
-use Rattle.std.proofs.Common.{ℕ, ◌≤◌, length, arith}
+use Rattle.std.proofs.Common.{arith}
 use Rattle.indigo_program.proofs.Lines.{lines_short}
 use Rattle.indigo_program.proofs.reply.printed.Goals as goal
 

@@ -1,5 +1,5 @@
-use Rattle.std.proofs.Common.{◌≡◌, ◌⊎◌, inl, inr, refl, sym, ap, ◌∙◌}
-use Rattle.indigo_program.proofs.Answered.{err_is, finished, reply_read}
+use Rattle.std.proofs.Common.{inl, inr, refl}
+use Rattle.indigo_program.proofs.Answered.{complete, err_is, finished, reply_read}
 use Rattle.indigo_program.proofs.top.tool.Goals as goal
 
 pub returns-in-None-clause-answered : goal.returns-in-None-clause-answered
@@ -18,3 +18,6 @@ pub returns-in-Ok-make_reply-clause-answered : goal.returns-in-Ok-make_reply-cla
 returns-in-Ok-make_reply-clause-answered g c =
     finished _ _ _ _ _ _ _ (reply_read _ c.in-Some.command _ c.in-Ok.bytes _ _ _ c.in-Some.ensures.some c.in-Ok.ensures.whole c.in-Ok.ensures.end c.in-Ok.ensures.short c.as_slice.ensures.value c.in-Ok-make_reply.ensures)
     c.as_slice-in-Ok-make_reply.ensures.value c.finish-in-Ok-make_reply.ensures
+
+pub returns-in-Ok-make_reply-clause-complete : goal.returns-in-Ok-make_reply-clause-complete
+returns-in-Ok-make_reply-clause-complete g c = complete _ _ _ _ (returns-in-Ok-make_reply-clause-answered g c)

@@ -1,0 +1,52 @@
+-- Which inputs each command takes, and which line of the others it refuses.
+use Rattle.std.specs.Prelude.{◌≡◌, ◌⊎◌, ℕ, List, Ok, Err, Some, None}
+use Rattle.run_model.specs.declared.step.Order.{Order}
+use Rattle.line_text.specs.declared.cause.Cause.{Cause}
+use Rattle.line_text.specs.declared.cause.Cause.TheVariants as causes
+use Rattle.line_text.specs.Lines.{lines_of}
+use Rattle.scenario_text.specs.declared.document.Document.{Document}
+use Rattle.scenario_text.specs.declared.document.Work.{Work}
+use Rattle.scenario_text.specs.declared.document.Work.TheVariants as works
+use Rattle.scenario_text.specs.Groups.{client_words, unbuilt_words, first_line}
+use Rattle.scenario_text.specs.Reading.{IsDocument, document_of}
+use Rattle.indigo_program.specs.declared.command.Command.{Command}
+use Rattle.indigo_program.specs.declared.command.Command.TheVariants as commands
+
+-- the bytes are a document with this schedule, and no line of it holds a word that isn't run yet
+pub record IsRunnable (bytes : List ℕ) (document : Document) (orders : List Order) : Type 0 where
+  pub read : document_of bytes ≡ Ok document
+  pub schedule : document.work ≡ works.Schedule orders
+  pub built : first_line unbuilt_words (lines_of bytes) ≡ None
+
+-- the inputs that a command takes
+abbrev pub Takes : Command → List ℕ → Type 0
+Takes commands.Simulate bytes = (document : Document) × (orders : List Order) × IsRunnable bytes document orders
+Takes commands.Print bytes = IsDocument bytes
+
+-- the work is that of clients
+abbrev pub IsOfClients : Work → Type 0
+IsOfClients (works.Schedule orders) = ⊥
+IsOfClients (works.Clients turns homes asks) = Unit {0}
+
+-- the bytes are a document with clients, and this is its first line that is about them
+pub record IsOutOfPlace (bytes : List ℕ) (line : ℕ) (cause : Cause) : Type 0 where
+  pub document : Document
+  pub read : document_of bytes ≡ Ok document
+  pub clients : IsOfClients document.work
+  pub first : first_line client_words (lines_of bytes) ≡ Some line
+  pub cause_is : cause ≡ causes.OutOfPlace
+
+-- the bytes are a document with a schedule, and this is its first line that holds a word that isn't run yet
+pub record IsUnbuilt (bytes : List ℕ) (line : ℕ) (cause : Cause) : Type 0 where
+  pub document : Document
+  pub orders : List Order
+  pub read : document_of bytes ≡ Ok document
+  pub schedule : document.work ≡ works.Schedule orders
+  pub first : first_line unbuilt_words (lines_of bytes) ≡ Some line
+  pub cause_is : cause ≡ causes.UnknownLine
+
+-- the line that a command refuses, and why: the bytes are no document, or none that it runs
+abbrev pub Refuses : Command → List ℕ → ℕ → Cause → Type 0
+Refuses commands.Simulate bytes line cause =
+    (document_of bytes ≡ Err (line, cause)) ⊎ IsOutOfPlace bytes line cause ⊎ IsUnbuilt bytes line cause
+Refuses commands.Print bytes line cause = document_of bytes ≡ Err (line, cause)
