@@ -1,4 +1,4 @@
-use Rattle.std.specs.Prelude.{◌≡◌, ◌≤◌, length, take}
+use Rattle.std.specs.Prelude.{◌≡◌, take}
 use Rattle.spec_model.specs.Changes.{elements_at}
 use Rattle.replica_core.proofs.spending.cell_named.Given as goal
 
