@@ -1,13 +1,12 @@
 -- What instances touch, part by part.
-use Rattle.std.proofs.Common.{◌≡◌, ℕ, zero, suc, ◌+◌, ◌<◌, ◌≤◌, Bool, true, false, ◌&&◌, leb, List, [], ◌∷◌, length, get_or, drop, refl, sym, ap, ◌∙◌, arith}
-use Rattle.std.specs.Prelude.{slice_get, Some, None, Option}
+use Rattle.std.proofs.Common.{◌≡◌, ℕ, zero, suc, Bool, true, false, ◌&&◌, leb, List, [], ◌∷◌, length, get_or, refl, sym, ap, ◌∙◌}
+use Rattle.std.specs.Prelude.{slice_get, None}
 use Rattle.std.proofs.Math.Dec.{leb-suc-zero}
 use Rattle.ind_base.specs.declared.span.Span.{Span}
 use Rattle.spec_model.specs.declared.instance.Inst.{Inst}
 use Rattle.spec_model.specs.declared.operation.Term.{Term}
 use Rattle.spec_model.specs.declared.operation.Term.TheVariants as terms
 use Rattle.spec_model.specs.declared.operation.Op.{Op}
-use Rattle.spec_model.specs.declared.operation.Line.{Line}
 use Rattle.spec_model.specs.declared.spec.Spec.{Spec}
 use Rattle.spec_model.specs.Truths.{inst_has, inst_sets, lines_set, no_op, no_span, span_has, term_has, terms_touch}
 

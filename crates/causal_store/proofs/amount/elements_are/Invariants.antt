@@ -1,4 +1,4 @@
-use Rattle.std.specs.Prelude.{◌≡◌, drop, length}
+use Rattle.std.specs.Prelude.{◌≡◌, drop}
 use Rattle.std.specs.Str.{bytes_eq}
 use Rattle.spec_model.specs.Changes.{elements_at}
 use Rattle.causal_store.proofs.amount.elements_are.Given as goal
