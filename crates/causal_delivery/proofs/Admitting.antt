@@ -1,6 +1,6 @@
 -- Which items of a row were seen, and which of the others are ready.
-use Rattle.std.proofs.Common.{◌≡◌, ◌≢◌, ◌⊎◌, inl, inr, ℕ, zero, suc, ◌+◌, ◌-◌, ◌<◌, ◌≤◌, min, Bool, true, false, cond, List, [], ◌∷◌, ◌++◌, not, length, get_or, take, drop, refl, sym, ap, subst, ◌∙◌, arith, length-set, length-drop}
-use Rattle.std.specs.Prelude.{slice_index, slice_get, slice_set, nat_lt, Some, None, Option}
+use Rattle.std.proofs.Common.{◌≡◌, inl, inr, ℕ, zero, suc, ◌+◌, ◌-◌, ◌<◌, ◌≤◌, min, Bool, true, false, cond, List, [], ◌∷◌, not, length, get_or, take, drop, refl, sym, ap, subst, ◌∙◌, arith, length-set, length-drop}
+use Rattle.std.specs.Prelude.{slice_index, slice_get, slice_set, nat_lt, Some}
 use Rattle.std.specs.Option.{unwrap_or}
 use Rattle.std.specs.List.{AllByRecursion}
 use Rattle.std.proofs.lemmas.List.{drop_all, get_or-set_same, get_or-set_other, take-append-drop}

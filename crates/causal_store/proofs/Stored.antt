@@ -1,6 +1,6 @@
 -- A store's logs as one list of items.
 use mathlib.Core.Bool.{beq}
-use Rattle.std.proofs.Common.{◌≡◌, inl, inr, ℕ, zero, suc, ℤ, pos, ◌+ℤ◌, ◌-ℤ◌, ◌+◌, ◌<◌, ◌≤◌, max, Bool, true, false, cond, not, ◌&&◌, ◌||◌, List, [], ◌∷◌, ◌++◌, length, map, get_or, set, take, drop, replicate, refl, sym, ap, subst, ◌∙◌, arith, length-set}
+use Rattle.std.proofs.Common.{◌≡◌, inl, inr, ℕ, zero, suc, ℤ, pos, ◌+ℤ◌, ◌-ℤ◌, ◌+◌, ◌<◌, ◌≤◌, max, Bool, true, false, cond, not, ◌&&◌, ◌||◌, List, [], ◌∷◌, ◌++◌, length, map, get_or, set, drop, replicate, refl, sym, ap, subst, ◌∙◌, arith, length-set}
 use Rattle.std.specs.Prelude.{slice_get, slice_index, slice_set, nat_lt, sum_by, Option, Some, None}
 use Rattle.std.specs.Option.{option_map_or}
 use Rattle.std.proofs.lemmas.List.Sums.{sum_by-append}
@@ -17,7 +17,6 @@ use Rattle.spec_model.specs.Truths.{no_num, no_pred, pred_at, rule_wins, wins}
 use Rattle.spec_model.specs.Universe.{first_value}
 use Rattle.spec_model.specs.Fits.{NumFits}
 use Rattle.std.proofs.lemmas.Option.{slice_get-get_or}
-use Rattle.causal_store.proofs.Touching.{none_or}
 use Rattle.run_model.specs.Logs.{Logs, items_in, log_at}
 use Rattle.run_model.specs.Fitting.{ItemFits}
 use Rattle.run_model.specs.States.{is_before, is_setter, is_unfollowed, lowered_by, prevails, raised_by, truth_of, value_of}
@@ -25,6 +24,12 @@ use Rattle.run_model.proofs.Lists.{each_append, each_at}
 use Rattle.causal_store.specs.Folds.{all_items, is_behind, is_setter_past, known_by}
 use Rattle.causal_store.specs.Stores.{IsStore, cut_in, logs_in}
 use Rattle.causal_store.specs.declared.store.Store.{Store}
+
+-- behind a list is the default
+none_or : {X : Type 0} (xs : List X) (i : ℕ) (d : X) → slice_get xs i ≡ None → get_or xs i d ≡ d
+none_or [] i d is = refl
+none_or (x ∷ xs) zero d is = absurd cc
+none_or (x ∷ xs) (suc i) d is = none_or xs i d is
 
 -- a cut of all items has all of them
 pub items_all : (logs : Logs) → items_in (map (λ log. length log) logs) logs ≡ all_items logs

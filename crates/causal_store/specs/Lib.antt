@@ -1,3 +1,2 @@
-pub mod Amounts
 pub mod Folds
 pub mod Stores

@@ -3,13 +3,10 @@
 ghost use Rattle.std.specs.Prelude.{◌≡◌, ◌≤◌, ◌*◌, ℕ, max, All, length, slice_index};
 ghost use Rattle.std.specs.List.{list_any};
 ghost use Rattle.spec_model.specs.Fits.{IsWellFormed};
-ghost use Rattle.spec_model.specs.Changes as changes;
-ghost use Rattle.run_model.specs.Fitting.{ItemFits};
 ghost use Rattle.run_model.specs.States as states;
 ghost use Rattle.causal_store.specs.Folds as folds;
 
-use crate::amount::{inst_lowers, inst_raises};
-use crate::touch::inst_sets;
+use effect_model::{inst_sets, net_fall, net_rise};
 use ind_base::Cut;
 use spec_model::{Atom, Body, Cell, LogItem, Spec};
 
@@ -95,12 +92,11 @@ pub(crate) fn has_setter_past(
 
 fn item_raises(spec: &Spec, cell: &Cell, item: &LogItem) -> u64
     requires well_formed { IsWellFormed spec.now }
-    requires fits { (replicas : ℕ) × ItemFits spec.now replicas item.now }
     ensures value { result ≡ states.body_raises spec.now cell.now item.now.body }
     ensures small { result ≤ 16000000000 }
 {
     match &item.body {
-        Body::Act(inst) => inst_raises(spec, inst, cell),
+        Body::Act(inst) => net_rise(spec, inst, cell),
         Body::Out { .. } => 0,
         Body::Accept { .. } => 0,
     }
@@ -108,12 +104,11 @@ fn item_raises(spec: &Spec, cell: &Cell, item: &LogItem) -> u64
 
 fn item_lowers(spec: &Spec, cell: &Cell, item: &LogItem) -> u64
     requires well_formed { IsWellFormed spec.now }
-    requires fits { (replicas : ℕ) × ItemFits spec.now replicas item.now }
     ensures value { result ≡ states.body_lowers spec.now cell.now item.now.body }
     ensures small { result ≤ 16000000000 }
 {
     match &item.body {
-        Body::Act(inst) => inst_lowers(spec, inst, cell),
+        Body::Act(inst) => net_fall(spec, inst, cell),
         Body::Out { .. } => 0,
         Body::Accept { .. } => 0,
     }
@@ -122,7 +117,6 @@ fn item_lowers(spec: &Spec, cell: &Cell, item: &LogItem) -> u64
 /// How much the acts of a log raise a cell.
 pub(crate) fn log_raises(spec: &Spec, cell: &Cell, log: &[LogItem]) -> u64
     requires well_formed { IsWellFormed spec.now }
-    requires fits { (replicas : ℕ) × All (ItemFits spec.now replicas) log.now }
     requires short { length log.now ≤ 4194304 }
     ensures value { result ≡ states.raised_by spec.now cell.now log.now }
     ensures small { result ≤ 4194304 * 16000000000 }
@@ -137,7 +131,6 @@ pub(crate) fn log_raises(spec: &Spec, cell: &Cell, log: &[LogItem]) -> u64
 /// How much the acts of a log lower a cell.
 pub(crate) fn log_lowers(spec: &Spec, cell: &Cell, log: &[LogItem]) -> u64
     requires well_formed { IsWellFormed spec.now }
-    requires fits { (replicas : ℕ) × All (ItemFits spec.now replicas) log.now }
     requires short { length log.now ≤ 4194304 }
     ensures value { result ≡ states.lowered_by spec.now cell.now log.now }
     ensures small { result ≤ 4194304 * 16000000000 }

@@ -104,7 +104,7 @@ impl Store {
         requires next { item.now.index ≡ length (log_at (logs_in self.old) item.now.origin) }
         ensures applied { OnOk result (logs_in self.new ≡ slice_set (logs_in self.old) item.now.origin (log_at (logs_in self.old) item.now.origin ++ item.now ∷ [])) }
         ensures own { OnOk result (IsStore spec.now (length (logs_in self.old)) self.new) }
-        ensures err { OnErr result (logs_in self.new ≡ logs_in self.old) }
+        ensures err { OnErr result ((logs_in self.new ≡ logs_in self.old) × (cut_in self.new ≡ cut_in self.old)) }
     {
         let origin = item.origin as usize;
         let log = &mut self.logs[origin];

@@ -11,6 +11,7 @@ pub mod Sums
 pub mod Untouched
 pub mod Needed
 pub mod Turning
+pub mod Acts
 pub mod Pruned
 pub mod Searched
 pub mod Standing

@@ -34,7 +34,7 @@ atoms_turn spec inst preds k d lt =
     ∙ ap (λ (cs : List AtomChange). cs ++ flat_map (atom_change spec inst) (atoms_from spec (k + 1) (drop (k + 1) preds))) (flat_map-map (atom_change spec inst) atom (tuples (sizes_of spec p.sorts)))
 
 -- the lines of an instance's operation
-lines_are : (ops : List Op) (i : ℕ) → (get_or ops i no_op).lines ≡ option_map_or (λ op. op.lines) (slice_get ops i) []
+pub lines_are : (ops : List Op) (i : ℕ) → (get_or ops i no_op).lines ≡ option_map_or (λ op. op.lines) (slice_get ops i) []
 lines_are [] i = refl
 lines_are (o ∷ ops) zero = refl
 lines_are (o ∷ ops) (suc i) = lines_are ops i

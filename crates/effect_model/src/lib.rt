@@ -1,6 +1,7 @@
 //! Effects of operations: the places of atoms and cells, what an instance changes, and what it breaks.
 #![tactic(auto)]
 
+mod acting;
 mod block;
 mod breaking;
 mod change;
@@ -18,6 +19,7 @@ mod touching;
 mod truth;
 mod walk;
 
+pub use acting::{inst_sets, net_fall, net_rise};
 pub use breaking::breaks;
 pub use change::{AtomChange, CellChange, Change};
 pub use effects::effect;
@@ -28,4 +30,5 @@ pub use laws::{changes_are_small, universe_is_all};
 pub use map::Places;
 pub use places::{atom_at, atom_count, atom_place, cell_at, cell_count, cell_place};
 pub use state::{State, initial};
+pub use touching::cell_named;
 pub use truth::Truth;

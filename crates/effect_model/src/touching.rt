@@ -11,12 +11,14 @@ ghost use Rattle.effect_model.specs.Touching as touching;
 
 use spec_model::{Args, Cell, Inst, Line, Spec, Term};
 
-/// The effect lines of an instance's operation.
+/// The effect lines of an instance's operation, if it is declared.
 pub(crate) fn lines_of<'a>(spec: &'a Spec, inst: &Inst) -> &'a [Line]
-    requires { inst.now.op < length spec.now.ops }
     ensures { result.now ≡ (truths.op_at spec.now inst.now.op).lines }
 {
-    spec.ops.as_slice()[inst.op as usize].lines.as_slice()
+    match spec.ops.get(inst.op as usize) {
+        Some(op) => op.lines.as_slice(),
+        None => &[],
+    }
 }
 
 /// Whether an element lies in an argument of the instance.
@@ -147,6 +149,14 @@ fn elements_at(inst: &Inst, params: &Args) -> Args
         elements.push(first_of(inst, *place));
     }
     elements
+}
+
+/// The cell that a number is at these parameters of an instance.
+pub fn cell_named(inst: &Inst, num: u32, params: &Args) -> Cell
+    ensures { result ≡ changes.cell_named inst.now num params.now }
+{
+    let args = elements_at(inst, params);
+    Cell { num, args }
 }
 
 /// Whether two lists of numbers are equal.

@@ -1,6 +1,5 @@
 -- A replica before its first step.
-use Rattle.std.proofs.Common.{◌≡◌, ℕ, zero, suc, ◌+◌, ◌-◌, ◌*◌, ◌<◌, ◌≤◌, ◌^◌, List, [], ◌∷◌, length, map, replicate, refl, sym, ap, subst, ◌∙◌, arith}
-use Rattle.std.specs.Prelude.{slice_get, slice_index, Some, Contains, sum_by}
+use Rattle.std.proofs.Common.{◌≡◌, ℕ, zero, suc, ◌+◌, ◌-◌, ◌<◌, List, [], ◌∷◌, length, map, replicate, refl, sym, ap, subst, ◌∙◌, arith}
 use Rattle.std.specs.List.{AllByRecursion}
 use Rattle.std.proofs.lemmas.List.{length-replicate}
 use Rattle.spec_model.specs.declared.plan.Setup.{Setup}
@@ -11,8 +10,8 @@ use Rattle.run_model.specs.Logs.{Logs, log_at}
 use Rattle.run_model.specs.Rights.{even_share, first_count, held_count}
 use Rattle.run_model.specs.Worlds.{Standing, first_standing, no_cut}
 use Rattle.run_model.specs.Fitting.{AreInRow, WantFits}
-use Rattle.causal_store.specs.Stores.{IsStore, cut_in, logs_in}
-use Rattle.replica_core.specs.Tables.{AreFirst, AreUpTo}
+use Rattle.causal_store.specs.Stores.{IsStore, cut_in}
+use Rattle.replica_core.specs.Tables.{AreFirst}
 use Rattle.replica_core.specs.Replicas.{AreCovered, IsKnown, IsReplica, known_to, own_log, standing_of}
 use Rattle.replica_core.specs.declared.replica.Replica.{Replica}
 

@@ -1,5 +1,5 @@
 -- What a replica does with a message, from the first to the last.
-use Rattle.std.proofs.Common.{◌≡◌, ◌≢◌, ℕ, zero, suc, ◌+◌, ◌<◌, ◌≤◌, Bool, true, false, cond, List, [], ◌∷◌, ◌++◌, length, filter, refl, sym, ap, subst, ◌∙◌, arith}
+use Rattle.std.proofs.Common.{◌≡◌, ℕ, ◌≤◌, Bool, true, false, cond, List, [], ◌∷◌, length, filter, refl, sym, ap, subst, ◌∙◌, arith}
 use Rattle.std.specs.Prelude.{not}
 use Rattle.std.specs.List.{AllByRecursion}
 use Rattle.spec_model.specs.declared.plan.Setup.{Setup}
@@ -7,12 +7,11 @@ use Rattle.spec_model.specs.declared.right.Need.{Need}
 use Rattle.spec_model.specs.declared.right.Held.{Held}
 use Rattle.spec_model.specs.declared.right.Want.{Want}
 use Rattle.run_model.specs.declared.message.Message.{Message}
-use Rattle.run_model.specs.declared.step.Outcome.{Outcome}
 use Rattle.run_model.specs.declared.step.Outcome.TheVariants as outcomes
 use Rattle.run_model.specs.Logs.{Logs}
 use Rattle.run_model.specs.Rights.{is_met}
-use Rattle.run_model.specs.Worlds.{Sending, Standing, holding}
-use Rattle.run_model.specs.Steps.{accepts_of, answered, dropped}
+use Rattle.run_model.specs.Worlds.{Standing, holding}
+use Rattle.run_model.specs.Steps.{answered, dropped}
 use Rattle.run_model.specs.Wants.{need_of, still_wanted}
 use Rattle.run_model.specs.Fitting.{WantFits}
 use Rattle.run_model.proofs.Lists.{each_filter, each_weaker}

@@ -1,15 +1,14 @@
 -- What a replica of a run holds is small: no more than there was at the start, and all that was created.
-use Rattle.std.proofs.Common.{◌≡◌, inl, inr, ℕ, zero, suc, ◌+◌, ◌-◌, ◌*◌, ◌<◌, ◌≤◌, ◌^◌, ℤ, pos, negsuc, ◌-ℤ◌, ◌≤ℤ◌, List, [], ◌∷◌, ◌++◌, length, take, refl, sym, ap, subst, ◌∙◌, arith, length-take, length-append}
-use Rattle.std.specs.Prelude.{slice_get, slice_index, Option, Some, None, sum_by, is_some, if◌then◌else◌, Contains}
+use Rattle.std.proofs.Common.{◌≡◌, inl, inr, ℕ, zero, suc, ◌+◌, ◌*◌, ◌<◌, ◌≤◌, ℤ, pos, negsuc, ◌-ℤ◌, ◌≤ℤ◌, List, [], ◌∷◌, length, take, ap, subst, ◌∙◌, arith, length-take, length-append}
+use Rattle.std.specs.Prelude.{slice_get, slice_index, Option, Some, None, sum_by, is_some}
 use Rattle.std.specs.List.{AllByRecursion}
 use Rattle.std.specs.Option.{option_map_or}
 use Rattle.std.proofs.Math.Nat.{mul-suc}
 use Rattle.std.proofs.lemmas.Int.{ints}
 use Rattle.std.proofs.lemmas.Bool.{cases_eq, cases_Bool, cond-true, cond-false}
 use Rattle.std.proofs.lemmas.List.{length-map, take_all}
-use Rattle.std.proofs.lemmas.List.Sums.{sum_by-append, sum_by-cons, sum_by_push}
+use Rattle.std.proofs.lemmas.List.Sums.{sum_by-cons, sum_by_push}
 use Rattle.std.proofs.lemmas.Option.{slice_get_within}
-use Rattle.spec_model.specs.declared.plan.Setup.{Setup}
 use Rattle.spec_model.specs.declared.spec.Spec.{Spec}
 use Rattle.spec_model.specs.declared.spec.Num.{Num}
 use Rattle.spec_model.specs.declared.instance.Cell.{Cell}
@@ -21,8 +20,8 @@ use Rattle.spec_model.specs.declared.log.Body.TheVariants as body
 use Rattle.spec_model.specs.declared.log.LogItem.{LogItem}
 use Rattle.spec_model.specs.Bounds.{IsAtLeast, IsAtMost}
 use Rattle.spec_model.specs.Fits.{BoundFits, IsWellFormed, NumFits}
-use Rattle.spec_model.specs.Universe.{below, cells, first_value, lower_bound}
-use Rattle.spec_model.specs.Changes.{added, subtracted, net_rise}
+use Rattle.spec_model.specs.Universe.{below, lower_bound}
+use Rattle.spec_model.specs.Changes.{net_rise}
 use Rattle.effect_model.proofs.Sums.{changes_small}
 use Rattle.run_model.specs.Balance.{body_creates, body_spends, held_in, in_flight}
 use Rattle.run_model.specs.Logs.{Logs, items_in, log_at}

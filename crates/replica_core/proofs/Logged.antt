@@ -1,8 +1,7 @@
 -- A replica keeps beside its log what it holds.
-use Rattle.std.proofs.Common.{◌≡◌, ◌≢◌, inl, inr, ℕ, zero, suc, ◌+◌, ◌-◌, ◌*◌, ◌<◌, ◌≤◌, ◌^◌, List, [], ◌∷◌, ◌++◌, length, map, set, refl, sym, ap, subst, ◌∙◌, arith, length-set}
-use Rattle.std.specs.Prelude.{slice_get, slice_index, slice_set, Some, Option, Result, Ok, Err, OnOk, Contains, sum_by}
+use Rattle.std.proofs.Common.{◌≡◌, ◌≢◌, ℕ, zero, suc, ◌+◌, ◌-◌, ◌*◌, ◌<◌, ◌≤◌, ◌^◌, List, [], ◌∷◌, ◌++◌, length, map, refl, sym, ap, subst, ◌∙◌, arith}
+use Rattle.std.specs.Prelude.{slice_get, slice_index, slice_set, Some, Result, Ok, Err, OnOk, Contains, sum_by}
 use Rattle.std.specs.List.{AllByRecursion}
-use Rattle.std.specs.Option.{option_map_or}
 use Rattle.std.proofs.lemmas.List.{get_or-set_same, get_or-set_other, length_push, map-set}
 use Rattle.std.proofs.lemmas.List.Sums.{sum_by_push}
 use Rattle.spec_model.specs.declared.plan.Setup.{Setup}
@@ -14,19 +13,19 @@ use Rattle.spec_model.specs.declared.log.Body.{Body}
 use Rattle.spec_model.specs.declared.log.Body.TheVariants as body
 use Rattle.spec_model.specs.declared.log.LogItem.{LogItem}
 use Rattle.spec_model.specs.Universe.{cells}
-use Rattle.run_model.specs.Logs.{Logs, item_at, log_at}
+use Rattle.run_model.specs.Logs.{Logs, log_at}
 use Rattle.spec_model.specs.declared.right.Piece.TheVariants as piece
 use Rattle.std.proofs.lemmas.Bool.{cond_both}
 use Rattle.run_model.proofs.Escrow.{same_right_is}
-use Rattle.run_model.specs.Rights.{body_gains, body_loses, even_share, first_count, held_count, out_gives, same_right}
-use Rattle.run_model.specs.Worlds.{Standing, Sending, logged}
+use Rattle.run_model.specs.Rights.{body_gains, body_loses, held_count, out_gives, same_right}
+use Rattle.run_model.specs.Worlds.{Standing}
 use Rattle.run_model.specs.Fitting.{AreInRow, WantFits}
 use Rattle.run_model.proofs.Lists.{each_append, each_weaker}
 use Rattle.run_model.proofs.Own.{own_append}
 use Rattle.run_model.proofs.Agreed.{Agrees, AllAgree, gains_agree, gains_all_agree}
-use Rattle.causal_store.specs.Stores.{IsStore, cut_in, logs_in}
-use Rattle.replica_core.specs.Tables.{AreHeld, AreUpTo}
-use Rattle.replica_core.specs.Replicas.{AreCovered, HasLogged, IsKnown, IsReplica, item_of, known_to, own_log, standing_of}
+use Rattle.causal_store.specs.Stores.{IsStore, cut_in}
+use Rattle.replica_core.specs.Tables.{AreUpTo}
+use Rattle.replica_core.specs.Replicas.{HasLogged, IsKnown, IsReplica, item_of, known_to, own_log, standing_of}
 use Rattle.replica_core.specs.declared.replica.Replica.{Replica}
 use Rattle.replica_core.proofs.Counts.{in_universe}
 

@@ -1,6 +1,6 @@
 -- What a request needs, and what is wanted once it is short.
-use Rattle.std.proofs.Common.{◌≡◌, inl, inr, ℕ, zero, suc, ◌+◌, ◌-◌, ◌<◌, ◌≤◌, ◌^◌, Bool, true, false, cond, List, [], ◌∷◌, ◌++◌, length, map, drop, refl, sym, ap, subst, ◌∙◌, arith}
-use Rattle.std.specs.Prelude.{Some, None, Option, Contains, is_some, nat_lt, slice_set}
+use Rattle.std.proofs.Common.{◌≡◌, ℕ, zero, suc, ◌-◌, ◌≤◌, Bool, true, false, cond, List, [], ◌∷◌, ◌++◌, length, drop, refl, sym, ap, subst, arith}
+use Rattle.std.specs.Prelude.{Some, None, Contains, is_some, nat_lt, slice_set}
 use Rattle.std.proofs.lemmas.List.{length-append}
 use Rattle.std.specs.List.{AllByRecursion, flat_map, list_any}
 use Rattle.std.proofs.lemmas.Bool.{cond_both, cond-false}
@@ -20,11 +20,9 @@ use Rattle.spec_model.specs.Universe.{cells, upper_bound}
 use Rattle.spec_model.specs.Changes.{net_rise}
 use Rattle.spec_model.specs.Needs.{escrow_need, escrow_needs, spends}
 use Rattle.effect_model.specs.Amounts.{IsFew}
-use Rattle.run_model.specs.declared.step.Outcome.{Outcome}
 use Rattle.run_model.specs.declared.step.Outcome.TheVariants as outcomes
 use Rattle.run_model.specs.Logs.{Logs}
 use Rattle.run_model.specs.Rights.{first_lacking, is_met}
-use Rattle.run_model.specs.Worlds.{Sending, Standing}
 use Rattle.run_model.specs.Steps.{Requested}
 use Rattle.run_model.specs.Wants.{behind, is_on, noted, replaced, want_of}
 use Rattle.run_model.specs.Fitting.{WantFits}

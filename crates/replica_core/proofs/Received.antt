@@ -1,5 +1,5 @@
 -- What a replica applies of a message.
-use Rattle.std.proofs.Common.{◌≡◌, ◌≢◌, inl, inr, ℕ, zero, suc, ◌+◌, ◌-◌, ◌<◌, ◌≤◌, Bool, true, false, List, [], ◌∷◌, ◌++◌, length, get_or, map, set, take, drop, refl, sym, ap, subst, ◌∙◌, arith, length-set, ltb-false}
+use Rattle.std.proofs.Common.{◌≡◌, ◌≢◌, inl, inr, ℕ, zero, suc, ◌+◌, ◌-◌, ◌<◌, ◌≤◌, true, false, List, [], ◌∷◌, ◌++◌, length, get_or, map, set, take, drop, refl, sym, ap, subst, ◌∙◌, arith, length-set, ltb-false}
 use Rattle.std.specs.Prelude.{slice_get, slice_index, slice_index_or, slice_set, Some, All, not, nat_lt, sum_by}
 use Rattle.std.specs.List.{AllByRecursion}
 use Rattle.std.proofs.lemmas.List.{get_or-set_same, get_or-set_other, map-set, length-map}
@@ -12,17 +12,16 @@ use Rattle.spec_model.specs.declared.right.Want.{Want}
 use Rattle.spec_model.specs.declared.log.Body.{Body}
 use Rattle.spec_model.specs.declared.log.Body.TheVariants as body
 use Rattle.spec_model.specs.declared.log.LogItem.{LogItem}
-use Rattle.spec_model.specs.Universe.{cells}
 use Rattle.run_model.specs.declared.message.Message.{Message}
 use Rattle.run_model.specs.Logs.{Logs, item_at, log_at, with_item}
-use Rattle.run_model.specs.Rights.{body_gains, body_loses}
+use Rattle.run_model.specs.Rights.{body_gains}
 use Rattle.run_model.specs.Worlds.{Standing, Sending, joined, logged_all}
-use Rattle.run_model.specs.Steps.{AreAdmitted, accept_of, accepts_of, cut_after, received, unseen}
+use Rattle.run_model.specs.Steps.{AreAdmitted, accept_of, accepts_of, cut_after}
 use Rattle.run_model.specs.Fitting.{AreInRow, ItemFits, MessageFits, WantFits}
-use Rattle.run_model.proofs.Lists.{each_append, each_at, each_filter, each_take, each_weaker, get_behind, get_front}
-use Rattle.run_model.proofs.Own.{applied_one, own_at, own_drop, own_front}
+use Rattle.run_model.proofs.Lists.{each_filter, each_take, each_weaker, get_behind}
+use Rattle.run_model.proofs.Own.{applied_one, own_at, own_drop}
 use Rattle.run_model.proofs.Agreed.{Agrees, AllAgree, gains_all_agree}
-use Rattle.causal_store.specs.Stores.{IsStore, cut_in, logs_in}
+use Rattle.causal_store.specs.Stores.{IsStore, cut_in}
 use Rattle.causal_delivery.specs.Rows.{AreOfOne}
 use Rattle.replica_core.specs.Tables.{AreHeld}
 use Rattle.replica_core.specs.Replicas.{AreCovered, CanLearn, HasLearned, HasLoggedAll, HasReceived, IsApplied, IsKnown, IsReplica, known_to, own_log, standing_of, with_items}

@@ -1,27 +1,21 @@
 -- A message that is sent fits the replica that it is sent to.
-use Rattle.std.proofs.Common.{◌≡◌, ◌≢◌, ℕ, zero, suc, ◌+◌, ◌-◌, ◌<◌, ◌≤◌, ◌^◌, List, [], ◌∷◌, length, map, take, drop, refl, sym, ap, subst, ◌∙◌, arith, length-take}
+use Rattle.std.proofs.Common.{◌≡◌, ◌≢◌, ℕ, zero, suc, List, [], ◌∷◌, length, map, take, drop, sym, ap, subst, ◌∙◌, arith, length-take}
 use Rattle.std.specs.Prelude.{slice_index, slice_index_or}
 use Rattle.std.specs.List.{AllByRecursion}
 use Rattle.std.proofs.lemmas.List.{length-map}
 use Rattle.spec_model.specs.declared.plan.Setup.{Setup}
-use Rattle.spec_model.specs.declared.spec.Spec.{Spec}
-use Rattle.spec_model.specs.declared.right.Need.{Need}
-use Rattle.spec_model.specs.declared.right.Held.{Held}
 use Rattle.spec_model.specs.declared.right.Held.TheVariants as held
 use Rattle.spec_model.specs.declared.right.Want.{Want}
 use Rattle.spec_model.specs.declared.right.WantAsk.{WantAsk}
 use Rattle.spec_model.specs.declared.right.WantAsk.TheVariants as asked
 use Rattle.spec_model.specs.declared.log.LogItem.{LogItem}
-use Rattle.run_model.specs.declared.message.Message.{Message}
 use Rattle.run_model.specs.Logs.{Logs, log_at}
-use Rattle.run_model.specs.Rights.{held_of}
 use Rattle.run_model.specs.Wants.{ask_less, want_less}
-use Rattle.run_model.specs.Steps.{message_of}
 use Rattle.run_model.specs.Fitting.{AreInRow, AskFits, ItemFits, MessageFits, WantFits}
 use Rattle.run_model.proofs.Lists.{each_take}
 use Rattle.run_model.proofs.Own.{own_drop}
 use Rattle.causal_store.specs.Stores.{cut_in}
-use Rattle.replica_core.specs.Replicas.{IsReplica, holds_of, known_to, own_log, standing_of}
+use Rattle.replica_core.specs.Replicas.{IsReplica, holds_of, known_to, own_log}
 use Rattle.replica_core.specs.declared.replica.Replica.{Replica}
 use Rattle.replica_core.proofs.Needed.{each_dropped}
 use Rattle.replica_core.proofs.Received.{row_taken}

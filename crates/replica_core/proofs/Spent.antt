@@ -1,10 +1,8 @@
 -- What lines spend and create, cell by cell.
-use Rattle.std.proofs.Common.{◌≡◌, ◌≢◌, inl, inr, ℕ, zero, suc, ◌+◌, ◌-◌, ◌<◌, ◌≤◌, Bool, true, false, cond, List, [], ◌∷◌, ◌++◌, length, get_or, map, take, refl, sym, ap, subst, ◌∙◌, arith, eqb-true, ℤ}
-use Rattle.std.specs.Prelude.{slice_get, slice_index, Some, None, Option, Contains, is_some, sum_by, if◌then◌else◌, ◌&&◌, ◌==◌}
-use Rattle.std.specs.List.{AllByRecursion, AllZip}
+use Rattle.std.proofs.Common.{◌≡◌, inl, inr, ℕ, zero, suc, ◌+◌, ◌-◌, ◌<◌, ◌≤◌, Bool, true, false, cond, List, [], ◌∷◌, ◌++◌, length, get_or, take, refl, sym, ap, ◌∙◌, arith, eqb-true}
+use Rattle.std.specs.Prelude.{slice_get, Some, None, Option, Contains, is_some, sum_by}
+use Rattle.std.specs.List.{AllZip}
 use Rattle.std.specs.Option.{option_map_or}
-use Rattle.std.specs.Str.{bytes_eq}
-use Rattle.std.proofs.lemmas.Option.{slice_get-get_or, get_or_from_slice_get, same_Some}
 use Rattle.std.proofs.lemmas.Bool.{cases_Bool, cond-true, cond-false, and_parts}
 use Rattle.std.proofs.lemmas.List.Sums.{sum_by-cons, sum_by_push}
 use Rattle.ind_base.specs.declared.span.Span.{Span}
@@ -17,14 +15,13 @@ use Rattle.spec_model.specs.declared.operation.Line.{Line}
 use Rattle.spec_model.specs.declared.operation.Line.TheVariants as line
 use Rattle.spec_model.specs.declared.operation.Op.{Op}
 use Rattle.spec_model.specs.declared.right.Right.TheVariants as right
-use Rattle.spec_model.specs.Truths.{Within, num_at, no_num, no_op, no_var, op_at, size_of, sort_of}
+use Rattle.spec_model.specs.Truths.{Within, num_at, size_of}
 use Rattle.spec_model.specs.Universe.{cells, lower_bound}
 use Rattle.spec_model.specs.Changes.{added, cell_named, effect_lines, elements_at, line_adds, line_subtracts, net_fall, net_rise, same_cell, subtracted}
 use Rattle.spec_model.specs.Needs.{creates, spends}
-use Rattle.spec_model.specs.Fits.{ArgFits, ChangeFits, InstFits, LineFits, OpFits, PlainFits}
+use Rattle.spec_model.specs.Fits.{ArgFits, ChangeFits, PlainFits}
 use Rattle.effect_model.specs.Laws.{UniverseIsAll}
-use Rattle.effect_model.specs.Places.{CellFits}
-use Rattle.replica_core.specs.Tables.{LowersBy, RaisesBy, SpendsBy, bounded_adds, bounded_subtracts, count_of}
+use Rattle.replica_core.specs.Tables.{LowersBy, RaisesBy, bounded_adds, bounded_subtracts, count_of}
 use Rattle.replica_core.proofs.Counts.{count_here}
 
 -- ---- the cell of a line

@@ -1,8 +1,8 @@
 -- What a replica applies, accepts and gives, one item after the other.
-use Rattle.std.proofs.Common.{◌≡◌, ◌≢◌, inl, inr, ℕ, zero, suc, ◌+◌, ◌-◌, ◌/◌, ◌<◌, ◌≤◌, min, max, Bool, true, false, cond, List, [], ◌∷◌, ◌++◌, length, get_or, map, set, take, drop, refl, sym, ap, subst, ◌∙◌, arith, length-set, eq-eqb, ne_eqb}
-use Rattle.std.specs.Prelude.{slice_get, slice_index, slice_set, Some, None, Option, Result, Ok, Err, OnOk, All, is_some, ◌==◌}
-use Rattle.std.specs.List.{AllByRecursion, flat_map, zip}
-use Rattle.std.proofs.lemmas.List.{get_or-set_same, get_or-set_other, length_push, at_drop_more, append_assoc, append-nil}
+use Rattle.std.proofs.Common.{◌≡◌, ◌≢◌, ℕ, zero, suc, ◌+◌, ◌/◌, ◌<◌, ◌≤◌, min, max, Bool, true, false, cond, List, [], ◌∷◌, ◌++◌, length, get_or, set, take, drop, refl, sym, ap, subst, ◌∙◌, arith, length-set, eq-eqb, ne_eqb}
+use Rattle.std.specs.Prelude.{slice_get, slice_index, slice_set, Some, None, Option, is_some, ◌==◌}
+use Rattle.std.specs.List.{AllByRecursion, flat_map}
+use Rattle.std.proofs.lemmas.List.{get_or-set_same, get_or-set_other, length_push, append_assoc, append-nil}
 use Rattle.std.proofs.lemmas.List.Concat.{flat_map-cons}
 use Rattle.std.proofs.lemmas.Grind.{flat_map-append}
 use Rattle.std.proofs.lemmas.Bool.{cond-true, cond-false}
@@ -14,10 +14,8 @@ use Rattle.spec_model.specs.declared.right.Right.TheVariants as right
 use Rattle.spec_model.specs.declared.right.Need.{Need}
 use Rattle.spec_model.specs.declared.right.Held.{Held}
 use Rattle.spec_model.specs.declared.right.Held.TheVariants as held
-use Rattle.spec_model.specs.declared.right.Amount.{Amount}
 use Rattle.spec_model.specs.declared.right.Amount.TheVariants as amount
 use Rattle.spec_model.specs.declared.right.Want.{Want}
-use Rattle.spec_model.specs.declared.right.WantAsk.{WantAsk}
 use Rattle.spec_model.specs.declared.right.WantAsk.TheVariants as asked
 use Rattle.spec_model.specs.declared.right.Piece.{Piece}
 use Rattle.spec_model.specs.declared.right.Piece.TheVariants as piece
@@ -31,12 +29,11 @@ use Rattle.run_model.specs.Worlds.{Standing, Sending, holding, joined, logged, l
 use Rattle.run_model.specs.Steps.{accept_of, accepts_of, answered, given}
 use Rattle.run_model.specs.Wants.{amount_of, need_of, piece_for}
 use Rattle.run_model.specs.Fitting.{AreInRow, ItemFits}
-use Rattle.run_model.proofs.Lists.{each_append, each_weaker}
-use Rattle.run_model.proofs.Own.{own_at, own_front}
+use Rattle.run_model.proofs.Own.{own_front}
 use Rattle.run_model.proofs.Agreed.{held_agree}
-use Rattle.causal_store.specs.Stores.{IsStore, cut_in, logs_in}
+use Rattle.causal_store.specs.Stores.{IsStore}
 use Rattle.replica_core.specs.Tables.{low_need}
-use Rattle.replica_core.specs.Replicas.{CanLearn, HasGiven, HasLearned, HasLogged, HasLoggedAll, HasRoom, IsApplied, IsReplica, KnowsOwn, holds_of, known_to, own_log, standing_of, with_items}
+use Rattle.replica_core.specs.Replicas.{CanLearn, HasGiven, HasLearned, HasLogged, HasLoggedAll, IsApplied, IsReplica, KnowsOwn, holds_of, known_to, own_log, standing_of, with_items}
 use Rattle.replica_core.specs.declared.replica.Replica.{Replica}
 use Rattle.replica_core.proofs.Logged.{all_agree, OthersSame}
 

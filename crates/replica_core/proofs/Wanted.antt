@@ -1,5 +1,5 @@
 -- Wants and needs of rights to lower cells.
-use Rattle.std.proofs.Common.{◌≡◌, ℕ, zero, suc, List, [], ◌∷◌, refl, sym, ap, ◌∙◌}
+use Rattle.std.proofs.Common.{◌≡◌, ℕ, zero, suc, List, [], ◌∷◌, refl}
 use Rattle.std.specs.Prelude.{slice_get, slice_index, slice_index_or, None}
 
 -- where nothing was told nothing is known

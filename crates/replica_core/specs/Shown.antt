@@ -1,5 +1,5 @@
 -- What a replica shows of itself.
-use Rattle.std.specs.Prelude.{ℕ, List, [], Bool, is_some, if◌then◌else◌}
+use Rattle.std.specs.Prelude.{List, [], Bool, is_some, if◌then◌else◌}
 use Rattle.spec_model.specs.declared.plan.Setup.{Setup}
 use Rattle.spec_model.specs.declared.spec.Spec.{Spec}
 use Rattle.spec_model.specs.declared.instance.Atom.{Atom}

@@ -4,7 +4,6 @@ ghost use Rattle.std.specs.Prelude.{◌≡◌, ◌+◌, ◌*◌, ◌<◌, ◌≤
 ghost use Rattle.std.specs.List.{AllZip};
 ghost use Rattle.std.specs.Option.{option_map_or};
 ghost use Rattle.spec_model.specs.Fits.{ArgFits, InstFits, IsWellFormed, LineFits};
-ghost use Rattle.spec_model.specs.Changes as changes;
 ghost use Rattle.spec_model.specs.Needs.{spends};
 ghost use Rattle.spec_model.specs.Universe.{cells};
 ghost use Rattle.spec_model.specs.declared.instance.Cell.{Cell as CellOf};
@@ -12,30 +11,9 @@ ghost use Rattle.spec_model.specs.declared.right.Right.TheVariants as right;
 ghost use Rattle.replica_core.specs.Tables.{AreUpTo, LowersBy, RaisesBy, SpendsBy, bounded_adds, bounded_subtracts};
 
 use crate::rights::{gain, lose};
-use effect_model::universe_is_all;
-use ind_base::{Args, List};
-use spec_model::{Cell, Inst, Line, Op, Spec};
-
-/// The element that a plain argument is.
-fn element(inst: &Inst, place: u32) -> u32
-    ensures { result ≡ option_map_or (λ s. s.lo) (slice_get inst.now.args place) 0 }
-{
-    match inst.args.get(place as usize) {
-        Some(span) => span.lo,
-        None => 0,
-    }
-}
-
-/// The cell that a number is at these parameters.
-fn cell_named(inst: &Inst, num: u32, params: &Args) -> Cell
-    ensures { result ≡ changes.cell_named inst.now num params.now }
-{
-    let mut args = Args::new();
-    for place in params.as_slice() {
-        args.push(element(inst, *place));
-    }
-    Cell { num, args }
-}
+use effect_model::{cell_named, universe_is_all};
+use ind_base::List;
+use spec_model::{Inst, Line, Op, Spec};
 
 /// Whether a number has a lower bound.
 pub(crate) fn is_bounded(spec: &Spec, num: u32) -> bool

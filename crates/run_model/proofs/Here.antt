@@ -1,36 +1,31 @@
 -- A step of a replica by itself is a step of the world, and what it knows at the end tells its last state.
-use Rattle.std.proofs.Common.{◌≡◌, ◌≢◌, ℕ, zero, suc, ◌+◌, ◌-◌, ◌<◌, ◌≤◌, List, [], ◌∷◌, ◌++◌, length, take, refl, sym, ap, subst, ◌∙◌, arith, length-set}
-use Rattle.std.specs.Prelude.{slice_get, slice_index, slice_set, Some, Option, map, filter, sum_by, is_some, if◌then◌else◌}
+use Rattle.std.proofs.Common.{◌≡◌, ◌≢◌, ℕ, zero, suc, ◌+◌, ◌-◌, ◌<◌, List, [], ◌∷◌, ◌++◌, length, take, refl, sym, ap, subst, ◌∙◌, arith}
+use Rattle.std.specs.Prelude.{slice_get, slice_set, Some, Option, map, filter, sum_by, is_some, if◌then◌else◌}
 use Rattle.std.specs.List.{AllByRecursion, flat_map}
 use Rattle.std.proofs.Math.Path.{fun_ext}
 use Rattle.std.proofs.lemmas.Option.{slice_get_within}
-use Rattle.std.proofs.lemmas.List.{take_all, get_or-set_other}
 use Rattle.spec_model.specs.declared.plan.Setup.{Setup}
 use Rattle.spec_model.specs.declared.right.Right.{Right}
 use Rattle.spec_model.specs.declared.right.Right.TheVariants as right
 use Rattle.spec_model.specs.declared.log.LogItem.{LogItem}
-use Rattle.spec_model.specs.declared.instance.Cell.{Cell}
-use Rattle.spec_model.specs.declared.instance.Atom.{Atom}
 use Rattle.spec_model.specs.Universe.{atoms, cells, lower_bound, upper_bound}
 use Rattle.run_model.specs.declared.step.StepEntry.{StepEntry}
-use Rattle.run_model.specs.declared.history.CellValue.{CellValue}
-use Rattle.run_model.specs.declared.history.Hold.{Hold}
 use Rattle.run_model.specs.declared.history.Final.{Final}
-use Rattle.run_model.specs.Logs.{Logs, log_at, items_in}
+use Rattle.run_model.specs.Logs.{Logs, items_in}
 use Rattle.run_model.specs.Rights.{even_share, first_count, body_loses, held_count}
 use Rattle.run_model.specs.States.{truth_of, value_of}
 use Rattle.run_model.specs.Worlds.{Standing, Sending, World, logs_of, first_world}
 use Rattle.run_model.specs.Steps.{cut_after, Steps, Hears, links_of}
 use Rattle.run_model.specs.Runs.{WorldSteps, Runs}
-use Rattle.run_model.specs.Finals.{hold_of, final_of, low_holds, high_holds}
+use Rattle.run_model.specs.Finals.{hold_of}
 use Rattle.run_model.specs.Locals.{Local, Knows, learns, LocalSteps, StandsIn, StepsHere, LocalStepIsOne, FinalsAgree}
-use Rattle.run_model.proofs.Lists.{each_weaker, get_set_same, get_set_other}
+use Rattle.run_model.proofs.Lists.{each_weaker, get_set_same}
 use Rattle.run_model.proofs.Kept.{IsKept, kept_first}
 use Rattle.run_model.proofs.Known.{knows_here, knows_there, learns_long, seen_agrees}
 use Rattle.run_model.proofs.Growth.{IsSeen}
 use Rattle.run_model.proofs.Agreed.{Agrees, gains_all_agree}
 use Rattle.run_model.proofs.Stepped.{step_kept}
-use Rattle.run_model.proofs.Joined.{IsStepHere, step_here, known_long}
+use Rattle.run_model.proofs.Joined.{step_here, known_long}
 
 -- every world of a run is kept
 pub kept_run : (setup : Setup) (old : World) (es : List StepEntry) (new : World) → IsKept setup.replicas old → Runs setup old es new → IsKept setup.replicas new

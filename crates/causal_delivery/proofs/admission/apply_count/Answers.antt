@@ -1,4 +1,4 @@
-use Rattle.std.proofs.Common.{◌≤◌, arith}
+use Rattle.std.proofs.Common.{arith}
 use Rattle.causal_delivery.proofs.Admitting.{admitted_ready}
 use Rattle.causal_delivery.proofs.admission.apply_count.Goals as goal
 

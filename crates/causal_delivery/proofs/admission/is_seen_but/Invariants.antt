@@ -1,4 +1,4 @@
-use Rattle.std.specs.Prelude.{◌≡◌, ◌≢◌, ℕ, ◌<◌, ◌≤◌, slice_index}
+use Rattle.std.specs.Prelude.{◌≢◌, ℕ, ◌<◌, ◌≤◌, slice_index}
 use Rattle.causal_delivery.proofs.admission.is_seen_but.Given as goal
 
 -- all places before this one were seen

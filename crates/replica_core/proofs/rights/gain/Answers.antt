@@ -1,4 +1,4 @@
-use Rattle.std.proofs.Common.{arith, ap, ◌+◌, ◌∙◌, ◌≡◌, ℕ, List}
+use Rattle.std.proofs.Common.{arith, ap, ◌+◌, ◌≡◌, ℕ, List}
 use Rattle.std.specs.Prelude.{slice_index}
 use Rattle.replica_core.proofs.Counts.{cell_fits, set_raises}
 use Rattle.replica_core.proofs.rights.gain.Goals as goal

@@ -1,4 +1,3 @@
-use Rattle.std.proofs.Common.{arith, ap, sym, ◌∙◌}
 use Rattle.replica_core.proofs.Counts.{cell_fits}
 use Rattle.replica_core.proofs.rights.held_at.Goals as goal
 

@@ -1,16 +1,8 @@
-use Rattle.std.proofs.Common.{◌≡◌, ℕ, ◌+◌, ◌-◌, ◌*◌, ◌<◌, ◌≤◌, ◌^◌, true, cond, List, length, get_or, take, sym, ap, subst, ◌∙◌, arith}
-use Rattle.std.specs.Prelude.{slice_get, slice_index, Some, Option, Contains, sum_by, is_some}
-use Rattle.std.specs.Option.{option_copied}
+use Rattle.std.proofs.Common.{◌≡◌, ◌+◌, ◌*◌, ◌<◌, ◌^◌, List, length, get_or, take, ap, ◌∙◌, arith}
+use Rattle.std.specs.Prelude.{sum_by}
 use Rattle.std.proofs.lemmas.List.{take_all}
-use Rattle.spec_model.specs.declared.instance.Cell.{Cell}
 use Rattle.spec_model.specs.declared.operation.Line.{Line}
-use Rattle.spec_model.specs.declared.operation.Line.TheVariants as line
-use Rattle.spec_model.specs.declared.operation.Op.{Op}
-use Rattle.spec_model.specs.declared.right.Right.TheVariants as right
-use Rattle.spec_model.specs.Universe.{cells}
-use Rattle.spec_model.specs.Changes.{cell_named}
-use Rattle.spec_model.specs.Fits.{ChangeFits, LineFits}
-use Rattle.replica_core.specs.Tables.{AreUpTo, LowersBy, RaisesBy, SpendsBy, bounded_adds, bounded_subtracts, count_of}
+use Rattle.replica_core.specs.Tables.{bounded_adds}
 use Rattle.replica_core.proofs.Spent.{raises_both, raises_like, sum_more}
 use Rattle.replica_core.proofs.spending.raise.Goals as goal
 

@@ -1,4 +1,4 @@
-use Rattle.std.proofs.Common.{ap, sym, ◌∙◌, ◌++◌, ◌∷◌, [], arith, length, set, List}
+use Rattle.std.proofs.Common.{ap, ◌∙◌, ◌++◌, ◌∷◌, [], arith, length, set, List}
 use Rattle.spec_model.specs.declared.log.LogItem.{LogItem}
 use Rattle.std.proofs.lemmas.List.{get_or_default}
 use Rattle.causal_store.specs.Stores.{logs_in}

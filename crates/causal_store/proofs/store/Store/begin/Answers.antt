@@ -2,7 +2,6 @@ use Rattle.std.proofs.Common.{ap, sym, subst, ◌∙◌, ◌≡◌, ℕ, length,
 use Rattle.std.specs.List.{AllByRecursion}
 use Rattle.std.proofs.lemmas.List.{length-replicate}
 use Rattle.spec_model.specs.declared.log.LogItem.{LogItem}
-use Rattle.run_model.specs.Logs.{Logs}
 use Rattle.run_model.specs.Fitting.{ItemFits}
 use Rattle.causal_store.proofs.Stored.{no_counts, no_items_fit}
 use Rattle.causal_store.proofs.store.Store.begin.Goals as goal

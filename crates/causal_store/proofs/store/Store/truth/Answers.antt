@@ -1,5 +1,4 @@
 use Rattle.std.proofs.Common.{◌∙◌, ap, List}
-use Rattle.spec_model.specs.declared.log.LogItem.{LogItem}
 use Rattle.run_model.specs.Logs.{items_in}
 use Rattle.causal_store.specs.Folds.{all_items}
 use Rattle.causal_store.specs.Stores.{cut_in, logs_in}

@@ -1,4 +1,4 @@
-use Rattle.std.proofs.Common.{◌≡◌, ◌∙◌, ap, sym, List, length, arith, ◌+◌, ◌≤◌, drop, rules}
+use Rattle.std.proofs.Common.{◌≡◌, ◌∙◌, ap, List, length, arith, ◌≤◌, rules}
 use mir.Val.{SFits}
 use mir.Syntax.{w64}
 use Rattle.std.proofs.lemmas.Int.{to_z-of_z}

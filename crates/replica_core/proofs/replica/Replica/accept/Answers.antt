@@ -1,17 +1,14 @@
-use Rattle.std.proofs.Common.{◌≡◌, ◌≢◌, ℕ, zero, suc, ◌+◌, ◌*◌, ◌<◌, ◌≤◌, ◌^◌, true, List, length, refl, sym, ap, subst, ◌∙◌, arith}
-use Rattle.std.specs.Prelude.{slice_get, slice_index, Some, Option, OnOk, Contains}
+use Rattle.std.proofs.Common.{◌≡◌, ◌+◌, ◌*◌, ◌^◌, length, ap, ◌∙◌, arith}
+use Rattle.std.specs.Prelude.{slice_get, Option}
 use Rattle.std.specs.Option.{option_map_or}
 use Rattle.std.proofs.lemmas.Option.{slice_get_within}
-use Rattle.spec_model.specs.declared.instance.Cell.{Cell}
 use Rattle.spec_model.specs.declared.right.Right.TheVariants as right
-use Rattle.spec_model.specs.declared.right.Piece.TheVariants as piece
-use Rattle.spec_model.specs.declared.log.Body.{Body}
 use Rattle.spec_model.specs.declared.log.Body.TheVariants as body
 use Rattle.spec_model.specs.declared.log.LogItem.{LogItem}
 use Rattle.run_model.specs.Logs.{log_at}
-use Rattle.run_model.specs.Rights.{held_count, out_gives}
+use Rattle.run_model.specs.Rights.{out_gives}
 use Rattle.replica_core.specs.Tables.{count_of}
-use Rattle.replica_core.specs.Replicas.{HasLogged, known_to, own_log}
+use Rattle.replica_core.specs.Replicas.{known_to, own_log}
 use Rattle.replica_core.proofs.Logged.{logs_one, on_ok_all}
 use Rattle.replica_core.proofs.replica.Replica.accept.Goals as goal
 

@@ -1,8 +1,6 @@
-use Rattle.std.proofs.Common.{◌≡◌, ◌+◌, ◌<◌, ◌≤◌, List, ◌++◌, length, get_or, take, sym, ap, subst, ◌∙◌, arith, length-append}
+use Rattle.std.proofs.Common.{◌≡◌, ◌+◌, List, ◌++◌, length, take, sym, ap, ◌∙◌, arith, length-append}
 use Rattle.spec_model.specs.declared.log.LogItem.{LogItem}
-use Rattle.spec_model.specs.declared.log.Body.{Body}
 use Rattle.run_model.specs.Steps.{accept_of, accepts_of}
-use Rattle.replica_core.specs.Replicas.{HasLoggedAll}
 use Rattle.replica_core.proofs.Taken.{accept_few, accepts_more, logged_both, logged_these, longer_by}
 use Rattle.replica_core.proofs.replica.Replica.accept_all.Goals as goal
 

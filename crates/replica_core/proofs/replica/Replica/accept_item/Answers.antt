@@ -1,4 +1,4 @@
-use Rattle.std.proofs.Common.{sym, ap, ◌∙◌, ◌∷◌, []}
+use Rattle.std.proofs.Common.{◌∷◌, []}
 use Rattle.spec_model.specs.declared.log.Body.TheVariants as body
 use Rattle.run_model.specs.Steps.{accept_of}
 use Rattle.replica_core.proofs.Taken.{accepts_own, logged_alone, logged_these}

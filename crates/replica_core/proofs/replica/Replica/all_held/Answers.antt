@@ -1,5 +1,4 @@
-use Rattle.std.proofs.Common.{◌≡◌, ℕ, List, ◌++◌, ◌∷◌, [], ◌+◌, take, sym, ap, ◌∙◌}
-use Rattle.std.specs.List.{flat_map}
+use Rattle.std.proofs.Common.{List, ◌++◌, sym, ap, ◌∙◌}
 use Rattle.spec_model.specs.Universe.{cells}
 use Rattle.run_model.specs.declared.history.Hold.{Hold}
 use Rattle.replica_core.specs.Shown.{low_hold}

@@ -1,4 +1,4 @@
-use Rattle.std.proofs.Common.{◌≡◌, ◌+◌, ◌<◌, List, ◌++◌, ◌∷◌, [], length, get_or, map, take, sym, ap, ◌∙◌, arith}
+use Rattle.std.proofs.Common.{◌≡◌, ◌<◌, List, ◌++◌, ◌∷◌, [], length, get_or, map, take, sym, ap, ◌∙◌, arith}
 use Rattle.spec_model.specs.declared.right.Want.{Want}
 use Rattle.run_model.specs.Wants.{want_less}
 use Rattle.replica_core.specs.Replicas.{holds_of}

@@ -1,5 +1,4 @@
-use Rattle.std.specs.Prelude.{◌≡◌, All, map, take}
-use Rattle.run_model.specs.Fitting.{WantFits}
+use Rattle.std.specs.Prelude.{◌≡◌, map, take}
 use Rattle.run_model.specs.Wants.{want_less}
 use Rattle.replica_core.specs.Replicas.{holds_of}
 use Rattle.replica_core.proofs.replica.Replica.all_lacking.Given as goal

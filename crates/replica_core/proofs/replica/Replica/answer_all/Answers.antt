@@ -1,4 +1,4 @@
-use Rattle.std.proofs.Common.{◌≡◌, ◌+◌, ◌<◌, ◌≤◌, List, ◌++◌, ◌∷◌, [], length, take, sym, ap, subst, ◌∙◌, arith}
+use Rattle.std.proofs.Common.{◌+◌, List, take, sym, subst}
 use Rattle.spec_model.specs.declared.right.Want.{Want}
 use Rattle.replica_core.specs.Replicas.{HasGiven}
 use Rattle.replica_core.proofs.Lists.{take_more}

@@ -1,4 +1,4 @@
-use Rattle.std.proofs.Common.{◌≡◌, sym, ap, subst, ◌∙◌, length}
+use Rattle.std.proofs.Common.{◌≡◌, sym, subst, length}
 use Rattle.std.specs.Prelude.{OnOk, IfOk}
 use Rattle.spec_model.specs.declared.right.Want.{Want}
 use Rattle.run_model.specs.Steps.{given}

@@ -1,4 +1,4 @@
-use Rattle.std.proofs.Common.{refl, ◌∙◌, ap, sym}
+use Rattle.std.proofs.Common.{refl}
 use Rattle.replica_core.proofs.Begun.{first_replica, first_stands}
 use Rattle.replica_core.proofs.replica.Replica.begin.Goals as goal
 

@@ -1,4 +1,4 @@
-use Rattle.std.proofs.Common.{◌≡◌, ◌+◌, ◌<◌, List, ◌∷◌, length, get_or, drop, sym, ap, subst, ◌∙◌, arith}
+use Rattle.std.proofs.Common.{◌+◌, List, drop, sym, ap, subst, ◌∙◌}
 use Rattle.spec_model.specs.declared.right.Need.{Need}
 use Rattle.run_model.specs.Rights.{first_lacking}
 use Rattle.replica_core.specs.Tables.{NeedFits}

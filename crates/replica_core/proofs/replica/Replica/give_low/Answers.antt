@@ -1,4 +1,4 @@
-use Rattle.std.proofs.Common.{◌≡◌, ◌+◌, ◌/◌, min, ap, sym, ◌∙◌, arith}
+use Rattle.std.proofs.Common.{◌+◌, ◌/◌, min, ap, ◌∙◌}
 use Rattle.spec_model.specs.declared.log.Body.TheVariants as body
 use Rattle.spec_model.specs.declared.right.Right.TheVariants as right
 use Rattle.spec_model.specs.declared.right.Piece.TheVariants as piece

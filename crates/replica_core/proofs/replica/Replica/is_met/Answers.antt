@@ -1,5 +1,4 @@
 use Rattle.std.proofs.Common.{sym, ap, ◌∙◌}
-use Rattle.spec_model.specs.declared.right.Need.{Need}
 use Rattle.run_model.specs.Rights.{is_met}
 use Rattle.replica_core.specs.Replicas.{holds_of}
 use Rattle.replica_core.proofs.Taken.{need_low}

@@ -1,4 +1,4 @@
-use Rattle.std.proofs.Common.{◌≡◌, ℕ, List, [], sym, ap, ◌∙◌}
+use Rattle.std.proofs.Common.{ℕ, List, ap, ◌∙◌}
 use Rattle.spec_model.specs.declared.instance.Atom.{Atom}
 use Rattle.run_model.specs.declared.history.CellValue.{CellValue}
 use Rattle.run_model.specs.declared.history.Hold.{Hold}

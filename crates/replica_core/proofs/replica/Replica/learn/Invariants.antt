@@ -1,4 +1,4 @@
-use Rattle.std.specs.Prelude.{take, drop, length}
+use Rattle.std.specs.Prelude.{take, drop}
 use Rattle.replica_core.specs.Replicas.{CanLearn, HasLearned}
 use Rattle.replica_core.proofs.replica.Replica.learn.Given as goal
 

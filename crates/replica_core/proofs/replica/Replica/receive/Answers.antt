@@ -1,11 +1,9 @@
-use Rattle.std.proofs.Common.{◌≡◌, ℕ, ◌+◌, ◌<◌, ◌≤◌, ◌^◌, List, [], length, take, drop, sym, ap, subst, ◌∙◌, arith}
-use Rattle.std.specs.Prelude.{All}
+use Rattle.std.proofs.Common.{◌≡◌, List, [], length, take, drop, ap, ◌∙◌, arith}
 use Rattle.spec_model.specs.declared.log.LogItem.{LogItem}
 use Rattle.effect_model.proofs.Sizes.{all_at}
 use Rattle.run_model.specs.Worlds.{Standing}
 use Rattle.run_model.specs.Fitting.{ItemFits}
-use Rattle.replica_core.specs.Replicas.{IsReplica, own_log}
-use Rattle.replica_core.specs.declared.replica.Replica.{Replica}
+use Rattle.replica_core.specs.Replicas.{own_log}
 use Rattle.replica_core.proofs.Taken.{own_again}
 use Rattle.replica_core.proofs.Received.{Admits, all_applied, has_received, learned_replica, learned_stands, mid_can, mid_learns, mid_part}
 use Rattle.replica_core.proofs.replica.Replica.receive.Goals as goal

@@ -1,8 +1,7 @@
-use Rattle.std.proofs.Common.{◌≡◌, ℕ, List, [], length, sym, ap, subst, ◌∙◌}
-use Rattle.std.specs.Prelude.{All, Option, None, Some}
+use Rattle.std.proofs.Common.{◌≡◌, List, [], length, sym, ap, subst, ◌∙◌}
+use Rattle.std.specs.Prelude.{All, None, Some}
 use Rattle.std.specs.List.{AllByRecursion}
 use Rattle.spec_model.specs.declared.right.Need.{Need}
-use Rattle.spec_model.specs.declared.right.Lacking.{Lacking}
 use Rattle.spec_model.specs.declared.right.Right.TheVariants as right
 use Rattle.spec_model.specs.Needs.{escrow_needs}
 use Rattle.effect_model.specs.Amounts.{IsFew}

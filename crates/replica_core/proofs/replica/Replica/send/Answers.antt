@@ -1,4 +1,4 @@
-use Rattle.std.proofs.Common.{◌≡◌, ℕ, List, [], take, drop, ap, ◌∙◌}
+use Rattle.std.proofs.Common.{ℕ, List, [], take, drop, ap, ◌∙◌}
 use Rattle.std.specs.Prelude.{slice_index, slice_index_or}
 use Rattle.spec_model.specs.declared.log.LogItem.{LogItem}
 use Rattle.replica_core.proofs.Sending.{sent_fits}

@@ -1,4 +1,4 @@
-use Rattle.std.proofs.Common.{◌≡◌, ℕ, ◌+◌, ◌<◌, ◌≤◌, ◌^◌, List, length, sym, ap, subst, ◌∙◌, arith}
+use Rattle.std.proofs.Common.{List, subst, arith}
 use Rattle.spec_model.specs.declared.right.Want.{Want}
 use Rattle.replica_core.specs.Replicas.{HasGiven}
 use Rattle.replica_core.specs.declared.replica.Replica.{Replica}

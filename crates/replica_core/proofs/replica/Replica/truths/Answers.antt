@@ -1,4 +1,4 @@
-use Rattle.std.proofs.Common.{◌≡◌, ℕ, List, ◌++◌, ◌∷◌, [], ◌+◌, filter, take, sym, ap, ◌∙◌}
+use Rattle.std.proofs.Common.{List, ◌++◌, ◌∷◌, [], filter, sym, ap, ◌∙◌}
 use Rattle.spec_model.specs.declared.instance.Atom.{Atom}
 use Rattle.spec_model.specs.Universe.{atoms}
 use Rattle.replica_core.specs.Shown.{is_true_now}
