@@ -1,5 +1,5 @@
 -- What a request needs, and what is wanted once it is short.
-use Rattle.std.proofs.Common.{◌≡◌, ℕ, zero, suc, ◌-◌, ◌≤◌, Bool, true, false, cond, List, [], ◌∷◌, ◌++◌, length, drop, refl, sym, ap, subst, arith}
+use Rattle.std.proofs.Common.{◌≡◌, ℕ, zero, suc, ◌+◌, ◌-◌, ◌≤◌, Bool, true, false, cond, List, [], ◌∷◌, ◌++◌, length, drop, refl, sym, ap, subst, arith}
 use Rattle.std.specs.Prelude.{Some, None, Contains, is_some, nat_lt, slice_set}
 use Rattle.std.proofs.lemmas.List.{length-append}
 use Rattle.std.specs.List.{AllByRecursion, flat_map, list_any}
@@ -23,6 +23,7 @@ use Rattle.effect_model.specs.Amounts.{IsFew}
 use Rattle.run_model.specs.declared.step.Outcome.TheVariants as outcomes
 use Rattle.run_model.specs.Logs.{Logs}
 use Rattle.run_model.specs.Rights.{first_lacking, is_met}
+use Rattle.run_model.specs.Worlds.{Standing}
 use Rattle.run_model.specs.Steps.{Requested}
 use Rattle.run_model.specs.Wants.{behind, is_on, noted, replaced, want_of}
 use Rattle.run_model.specs.Fitting.{WantFits}
