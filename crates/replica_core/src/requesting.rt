@@ -97,7 +97,7 @@ impl Replica {
     }
 
     /// Answers a request: done where all that it needs is held, else short of the first need that
-    /// isn't met, which is wanted from then on.
+    /// isn't met, which is wanted from then on. A replica that ran out of memory is of no more use.
     pub fn request(
         &mut self,
         alloc: Global,
@@ -168,7 +168,8 @@ impl Replica {
     }
 
     /// The message that it sends: the next 16 items that the peer isn't known to have seen, what it
-    /// has seen itself, and what it still lacks.
+    /// has seen itself, and what it still lacks. `number` counts the messages that it put to the
+    /// peer before, and `stamp` is that of the step.
     pub fn send(
         &self,
         alloc: Global,

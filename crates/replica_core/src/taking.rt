@@ -256,7 +256,8 @@ impl Replica {
     }
 
     /// Takes a message: applies what it may of its items, accepts what they give, drops the wants
-    /// that are met, and gives to the sender of what it wants.
+    /// that are met, and gives to the sender of what it wants. A replica that ran out of memory is
+    /// of no more use.
     pub fn take(
         &mut self,
         alloc: Global,
