@@ -32,6 +32,7 @@ use Rattle.replica_core.specs.Laws.{FirstsKeepBounds, HoldsAreSmall}
 use Rattle.replica_core.specs.Replicas.{HasRoom, IsReplica, known_to, own_log, standing_of}
 use Rattle.request_workers.specs.declared.node.Node.{Node}
 use Rattle.request_workers.specs.Histories.{AreLegal}
+use Rattle.request_workers.proofs.Linked.{get_map}
 use Rattle.request_workers.specs.Nodes.{AreDone, AreRunning, IsNode, history_of, local_of, sendings_at}
 
 -- ---- a node at the end
@@ -85,11 +86,6 @@ mapped : {X Y : Type 0} (f : X → Y) (xs : List X) (i : ℕ) (y : Y) → slice_
 mapped f [] i y is = absurd cc
 mapped f (x ∷ xs) zero y is = (x, refl, cc)
 mapped f (x ∷ xs) (suc i) y is = mapped f xs i y is
-
-get_map : {X Y : Type 0} (f : X → Y) (xs : List X) (k : ℕ) (x : X) → slice_get xs k ≡ Some x → slice_get (map f xs) k ≡ Some (f x)
-get_map f [] k x is = absurd cc
-get_map f (y ∷ xs) zero x is = let same : y ≡ x = cc in ap (λ z. Some (f z)) same
-get_map f (y ∷ xs) (suc k) x is = get_map f xs k x is
 
 some_at : {X : Type 0} (xs : List X) (k : ℕ) → k < length xs → (x : X) × (slice_get xs k ≡ Some x)
 some_at [] k lt = absurd (omega (arith, lt))

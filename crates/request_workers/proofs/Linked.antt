@@ -194,7 +194,7 @@ links_sent setup done o to number w p m links few s h = record {
 
 -- ---- what is in hand
 
-get_map : {X Y : Type 0} (f : X → Y) (xs : List X) (k : ℕ) (x : X) → slice_get xs k ≡ Some x → slice_get (map f xs) k ≡ Some (f x)
+pub get_map : {X Y : Type 0} (f : X → Y) (xs : List X) (k : ℕ) (x : X) → slice_get xs k ≡ Some x → slice_get (map f xs) k ≡ Some (f x)
 get_map f [] k x is = absurd cc
 get_map f (y ∷ xs) zero x is = let same : y ≡ x = cc in ap (λ z. Some (f z)) same
 get_map f (y ∷ xs) (suc k) x is = get_map f xs k x is
