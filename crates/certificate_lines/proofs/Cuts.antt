@@ -1,5 +1,5 @@
 -- Where a list is cut, and the words of a line.
-use Rattle.std.proofs.Common.{◌≡◌, ℕ, zero, suc, ◌<◌, ◌≤◌, Bool, true, false, cond, eqb, List, [], ◌∷◌, ◌++◌, length, get_or, take, drop, refl, sym, ap, subst, ◌∙◌, arith, add-one, append-nil, append_assoc}
+use Rattle.std.proofs.Common.{◌≡◌, ◌≢◌, ℕ, zero, suc, ◌<◌, ◌≤◌, Bool, true, false, cond, eqb, List, [], ◌∷◌, ◌++◌, length, get_or, take, drop, refl, sym, ap, subst, ◌∙◌, arith, add-one, append-nil, append_assoc}
 use Rattle.std.specs.Prelude.{Option, Some, None, position}
 use Rattle.std.specs.List.{AllByRecursion, position_or_len}
 use Rattle.std.proofs.lemmas.Bool.{ne_eqb, eqb-true}
@@ -10,7 +10,6 @@ use Rattle.std.proofs.lemmas.List.Sums.{fails_before_first}
 use Rattle.line_text.specs.Lines.{onto_first}
 use Rattle.line_text.specs.Reads.{◌>>=◌}
 use Rattle.line_text.proofs.Inverse.{bind_some, some_same}
-use Rattle.certificate_lines.specs.Texts.{IsWhole}
 use Rattle.certificate_lines.specs.Words.{behind, cut, is_byte, spaced, words_of}
 
 -- ---- where the code cuts
@@ -80,6 +79,10 @@ cut_again p [] m rest h is = rw is refl
 cut_again p (x ∷ front) m rest h is = rw (h.0, cut_again p front m rest h.1 is) refl
 
 -- ---- the words of a line
+
+-- no blank stands in it
+abbrev pub IsWhole : List ℕ → Type 0
+IsWhole w = AllByRecursion (λ b. b ≢ 32) w
 
 words_first : (b : ℕ) (bs : List ℕ) (r : List ℕ × List ℕ) (t : Bool) → ((q : List ℕ × List ℕ) → cut (is_byte 32) bs ≡ Some q → words_of bs ≡ q.0 ∷ words_of q.1)
     → cond t (Some ([], bs)) (cut (is_byte 32) bs >>= λ q. Some (b ∷ q.0, q.1)) ≡ Some r → cond t ([] ∷ words_of bs) (onto_first b (words_of bs)) ≡ r.0 ∷ words_of r.1

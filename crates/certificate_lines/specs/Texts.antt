@@ -1,5 +1,5 @@
 -- How each line of a plan and a certificate is written.
-use Rattle.std.specs.Prelude.{◌≡◌, ◌≤◌, ◌≢◌, ℕ, if◌then◌else◌, List, [], ◌∷◌, ◌++◌, map, Some, codes, decimal}
+use Rattle.std.specs.Prelude.{◌≡◌, ◌≤◌, ℕ, if◌then◌else◌, List, [], ◌∷◌, ◌++◌, map, Some, codes, decimal}
 use Rattle.std.specs.List.{AllByRecursion}
 use Rattle.ground_clauses.specs.declared.clauses.Lit.{Lit}
 use Rattle.ground_clauses.specs.declared.clauses.Step.{Step}
@@ -43,21 +43,24 @@ line_text line = spaced (words_said line)
 abbrev pub IsSmall : ℕ → Type 0
 IsSmall n = n ≤ 4294967295
 
--- no blank stands in it
-abbrev pub IsWhole : List ℕ → Type 0
-IsWhole w = AllByRecursion (λ b. b ≢ 32) w
+-- a byte that can be seen
+abbrev pub IsSeen : ℕ → Type 0
+IsSeen b = (33 ≤ b) × (b ≤ 126)
+
+abbrev pub IsNeat : List ℕ → Type 0
+IsNeat w = AllByRecursion IsSeen w
 
 pub record KindSpelt (k : KindLine) : Type 0 where
   pub number : IsSmall k.number
-  pub first : IsWhole k.first
-  pub second : IsWhole k.second
+  pub first : IsNeat k.first
+  pub second : IsNeat k.second
   pub key : AllByRecursion (λ p. IsSmall p.a × IsSmall p.b) k.key
 
 pub record StepSpelt (s : Step) : Type 0 where
   pub lits : AllByRecursion (λ x. IsSmall x.var) s.lits
   pub hints : AllByRecursion IsSmall s.hints
 
--- its numbers have at most 32 bits, and no blank stands in its names
+-- its numbers have at most 32 bits, and its names have bytes that can be seen
 abbrev pub IsSpelt : TextLine → Type 0
 IsSpelt lines.Plan = Unit {0}
 IsSpelt (lines.Lock k) = KindSpelt k
