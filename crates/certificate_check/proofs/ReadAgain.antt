@@ -6,7 +6,7 @@ use Rattle.std.proofs.lemmas.Bool.{eqb-true, leb-true}
 use Rattle.certificate_check.specs.Draft.{fresh, is_end, step}
 use Rattle.certificate_check.specs.Printed.{certificate_text, op_name, word_line}
 use Rattle.certificate_check.specs.Reading.{go_on, outcome, read_from, read_of, taken}
-use Rattle.certificate_check.specs.Texts.{HasNames, KeepsLimits, LineKeepsLimits, TextReadAgain}
+use Rattle.certificate_check.specs.Texts.{HasNames, KeepsLimits, LineKeepsLimits, IsReadAgain}
 use Rattle.certificate_check.specs.declared.certificate.CertLine.{CertLine}
 use Rattle.certificate_check.specs.declared.certificate.CertLine.TheVariants.{Refuted, SepLock, SepPart}
 use Rattle.certificate_check.specs.declared.certificate.Certificate.{Certificate}
@@ -140,12 +140,15 @@ ends_same spec bytes plan c fits is = ap (outcome spec) is ∙ ap (λ (ms : List
 texts_apart : (ls : List TextLine) → AllByRecursion IsSpelt ls → lines_of (flat_map word_line (map line_text ls)) ≡ map line_text ls
 texts_apart ls spelt = lines_again (map line_text ls) (each_map (λ (line : List ℕ). all_plain line ≡ true) line_text ls (each_weaker IsSpelt (λ (l : TextLine). all_plain (line_text l) ≡ true) ls line_plain spelt))
 
--- the text of a plan that fits and a certificate is read as that plan and certificate
-pub text_again : TextReadAgain
-text_again spec plan c formed names fits limits =
+text_again : (spec : Spec) (plan : Plan) (c : Certificate) → PlanFits spec plan → IsReadAgain spec plan c (certificate_text spec plan c)
+text_again spec plan c fits formed names limits =
     let said = all_said spec plan.locks plan.parts c.lines in
     let spelt = all_spelt spec plan c formed names fits limits in
     let text : certificate_text spec plan c ≡ flat_map word_line (map line_text said) = sym (all_written spec plan c) ∙ sym (texts_map said) in
     let cut : lines_of (certificate_text spec plan c) ≡ map line_text said = ap lines_of text ∙ texts_apart said spelt in
     let read = lines_read spec 1 fresh (at_end plan.locks plan.parts c.lines) said spelt (all_taken spec plan.locks plan.parts c.lines names fits.locks_fit fits.parts_fit fits.once) refl in
     ends_same spec (lines_of (certificate_text spec plan c)) plan c fits (ap (read_from spec 1 fresh) cut ∙ read)
+
+-- what is printed is read again
+pub printed_again : (spec : Spec) (plan : Plan) (c : Certificate) (text : List ℕ) → PlanFits spec plan → text ≡ certificate_text spec plan c → IsReadAgain spec plan c text
+printed_again spec plan c text fits is = subst (IsReadAgain spec plan c) (sym is) (text_again spec plan c fits)

@@ -50,7 +50,6 @@ pub record KeepsLimits (plan : Plan) (certificate : Certificate) : Type 0 where
   pub cases : IsSmall (length certificate.lines)
   pub lines : AllByRecursion LineKeepsLimits certificate.lines
 
--- the text of a plan that fits and a certificate is read as that plan and certificate
-abbrev pub TextReadAgain : Type 0
-TextReadAgain = (spec : Spec) (plan : Plan) (certificate : Certificate) → IsWellFormed spec → HasNames spec → PlanFits spec plan → KeepsLimits plan certificate
-    → read_of spec (lines_of (certificate_text spec plan certificate)) ≡ Parts plan certificate
+-- this text is read as the plan and the certificate, where the operations' names tell them apart and numbers keep their limits
+abbrev pub IsReadAgain : Spec → Plan → Certificate → List ℕ → Type 0
+IsReadAgain spec plan certificate text = IsWellFormed spec → HasNames spec → KeepsLimits plan certificate → read_of spec (lines_of text) ≡ Parts plan certificate

@@ -1,7 +1,6 @@
 //! What a certificate that checks shows of instances: laws, which run nothing.
 
 ghost use Rattle.certificate_check.specs.Laws.{CheckedIsStable, YesChecks};
-ghost use Rattle.certificate_check.specs.Texts.{TextReadAgain};
 
 /// Two instances that the plan doesn't separate are stable, where a certificate checks.
 pub fn checked_is_stable()
@@ -11,9 +10,4 @@ pub fn checked_is_stable()
 /// The verdict is Yes exactly where the certificate checks.
 pub fn yes_checks()
     ensures { YesChecks }
-{}
-
-/// The text of a plan and a certificate is read again as that plan and certificate.
-pub fn text_read_again()
-    ensures { TextReadAgain }
 {}
