@@ -7,3 +7,9 @@ pub mod Universe
 pub mod Unseparated
 pub mod Verdicts
 pub mod Walks
+pub mod Reservations
+pub mod Saying
+pub mod Grown
+pub mod ReadBack
+pub mod Retaken
+pub mod ReadAgain

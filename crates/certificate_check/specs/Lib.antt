@@ -4,3 +4,7 @@ pub mod Printed
 pub mod Separation
 pub mod Turns
 pub mod Walks
+pub mod Fitting
+pub mod Draft
+pub mod Reading
+pub mod Texts

@@ -2,9 +2,12 @@
 #![tactic(auto)]
 
 mod certificate;
+mod draft;
+mod fitting;
 mod judge;
 mod laws;
 mod print;
+mod reading;
 mod separation;
 mod steps;
 mod verdict;
@@ -13,4 +16,5 @@ pub use certificate::{CertLine, Certificate};
 pub use judge::check;
 pub use laws::{checked_is_stable, yes_checks};
 pub use print::print_certificate;
+pub use reading::{Read, parse_certificate};
 pub use verdict::{Verdict, Why};

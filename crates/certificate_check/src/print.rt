@@ -4,6 +4,7 @@ ghost use Rattle.std.specs.Prelude.{◌≡◌, ◌<◌, ◌≤◌, ◌+◌, ◌+
 ghost use Rattle.std.specs.List.{flat_map, AllByRecursion};
 ghost use Rattle.spec_model.specs.Fits.{LockFits, PartFits, PlanFits};
 ghost use Rattle.certificate_check.specs.Printed as printed;
+ghost use Rattle.certificate_check.specs.Texts.{IsReadAgain};
 
 use crate::certificate::{CertLine, Certificate};
 use ground_clauses::{Lit, Step};
@@ -196,8 +197,8 @@ fn put_lines(out: &mut List<u8>, certificate: &Certificate) -> Result<(), NoMemo
     Ok(())
 }
 
-/// The text of a plan and a certificate: a line for each lock and partition, each case and each step.
-pub fn print_certificate(
+/// The text.
+fn put_all(
     alloc: Global,
     spec: &Spec,
     plan: &Plan,
@@ -210,4 +211,21 @@ pub fn print_certificate(
     put_plan(&mut out, spec, plan)?;
     put_lines(&mut out, certificate)?;
     Ok(out)
+}
+
+/// The text of a plan and a certificate: a line for each lock and partition, each case and each step.
+#[tactic(auto, using(crate::proofs::ReadAgain::printed_again))]
+pub fn print_certificate(
+    alloc: Global,
+    spec: &Spec,
+    plan: &Plan,
+    certificate: &Certificate,
+) -> Result<List<u8>, NoMemory>
+    requires { PlanFits spec.now plan.now }
+    ensures text { IfOk result (λ text. text ≡ printed.certificate_text spec.now plan.now certificate.now) }
+    // It is read as this plan and certificate again.
+    ensures again { IfOk result (λ text. IsReadAgain spec.now plan.now certificate.now text) }
+{
+    let text = put_all(alloc, spec, plan, certificate)?;
+    Ok(text)
 }

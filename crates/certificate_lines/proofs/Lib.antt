@@ -1,0 +1,4 @@
+pub mod Cuts
+pub mod Back
+pub mod Again
+pub mod Each
