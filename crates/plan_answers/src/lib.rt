@@ -4,6 +4,8 @@
 
 mod answer;
 mod checking;
+mod splitting;
 
 pub use answer::Answer;
 pub use checking::check_answer;
+pub use splitting::{lines, split_at_plan};
