@@ -52,7 +52,7 @@ abbrev pub ShapeAt : Stage → Draft → Type 0
 ShapeAt stages.Start d = (d.locks ≡ []) × (d.parts ≡ []) × IsEmpty d
 ShapeAt stages.Plan d = IsEmpty d
 ShapeAt stages.Certificate d = d.missing ≡ 0 → d.steps ≡ []
-ShapeAt stages.End d = Unit {0}
+ShapeAt stages.End d = d.missing ≡ 0
 
 pub record HasPlan (spec : Spec) (locks parts : List LockKind) : Type 0 where
   pub locks_fit : AllByRecursion (LockFits spec) locks
@@ -70,7 +70,7 @@ pub record Grown (spec : Spec) (d e : Draft) (l : TextLine) : Type 0 where
 
 -- ---- tests
 
-passes_some : {A : Type 0} (b : Bool) (f : Unit {0} → Option A) (y : A) → (passes b >>= f) ≡ Some y → (b ≡ true) × (f tt ≡ Some y)
+pub passes_some : {A : Type 0} (b : Bool) (f : Unit {0} → Option A) (y : A) → (passes b >>= f) ≡ Some y → (b ≡ true) × (f tt ≡ Some y)
 passes_some true f y e = (refl, e)
 passes_some false f y e = absurd cc
 
@@ -86,7 +86,7 @@ plan_is stages.Plan e = refl
 plan_is stages.Certificate e = absurd cc
 plan_is stages.End e = absurd cc
 
-certificate_is : (s : Stage) → is_certificate s ≡ true → s ≡ stages.Certificate
+pub certificate_is : (s : Stage) → is_certificate s ≡ true → s ≡ stages.Certificate
 certificate_is stages.Start e = absurd cc
 certificate_is stages.Plan e = absurd cc
 certificate_is stages.Certificate e = refl
@@ -128,7 +128,7 @@ none_before n = omega arith
 kinds_push_first : (spec : Spec) (line : KindLine → TextLine) (kinds : List LockKind) (l : LockKind) → kinds_said spec line 0 (kinds ++ l ∷ []) ≡ kinds_said spec line 0 kinds ++ line (kind_said spec (length kinds) l) ∷ []
 kinds_push_first spec line kinds l = kinds_push spec line 0 kinds l ∙ ap (λ (i : ℕ). kinds_said spec line 0 kinds ++ line (kind_said spec i l) ∷ []) (none_before (length kinds))
 
-cases_push_first : (ls : List CertLine) (l : CertLine) → cases_said 0 (ls ++ l ∷ []) ≡ cases_said 0 ls ++ form_said (length ls) l
+pub cases_push_first : (ls : List CertLine) (l : CertLine) → cases_said 0 (ls ++ l ∷ []) ≡ cases_said 0 ls ++ form_said (length ls) l
 cases_push_first ls l = cases_push 0 ls l ∙ ap (λ (i : ℕ). cases_said 0 ls ++ form_said i l) (none_before (length ls))
 
 -- ---- the plan
@@ -237,11 +237,11 @@ certificate_grown spec d e kept is =
 -- ---- the certificate
 
 -- where a case may follow
-record Between (d : Draft) (case : ℕ) : Type 0 where
-  at : d.stage ≡ stages.Certificate
-  missing : d.missing ≡ 0
-  steps : d.steps ≡ []
-  number : case ≡ length d.lines
+pub record Between (d : Draft) (case : ℕ) : Type 0 where
+  pub at : d.stage ≡ stages.Certificate
+  pub missing : d.missing ≡ 0
+  pub steps : d.steps ≡ []
+  pub number : case ≡ length d.lines
 
 between : (d : Draft) → ShapeAt d.stage d → is_between d ≡ true → Between d (length d.lines)
 between d shape e =
@@ -250,7 +250,7 @@ between d shape e =
     let missing = eqb-true d.missing 0 t.1 in
     record { at = at; missing = missing; steps = shape_is d stages.Certificate at shape missing; number = refl }
 
-next : (d : Draft) (case : ℕ) → ShapeAt d.stage d → is_next d case ≡ true → Between d case
+pub next : (d : Draft) (case : ℕ) → ShapeAt d.stage d → is_next d case ≡ true → Between d case
 next d case shape e =
     let t = and_true (is_between d) (eqb case (length d.lines)) e in
     let b = between d shape t.0 in
@@ -359,7 +359,7 @@ end_grown spec d e kept is =
     let new : Draft = record d { stage = stages.End } in
     let more : said spec new ≡ said spec d ++ lines.End ∷ [] =
     lines_behind (plan_said spec d.locks d.parts) (cases_said 0 d.lines) (lines.End ∷ []) lines.Certificate ∙ sym (ap (λ (ls : List TextLine). ls ++ lines.End ∷ []) (said_between spec d (length d.lines) b)) in
-    subst (λ (f : Draft). Grown spec d f lines.End) (some_same new e a.1) (record { more = more; kept = record { plan = kept.plan; shape = tt } })
+    subst (λ (f : Draft). Grown spec d f lines.End) (some_same new e a.1) (record { more = more; kept = record { plan = kept.plan; shape = b.missing } })
 
 -- each line that is taken is said at the end
 pub grown : (spec : Spec) (d e : Draft) (l : TextLine) → IsKept spec d → step spec d l ≡ Some e → Grown spec d e l

@@ -13,3 +13,5 @@ pub mod Grown
 pub mod ReadBack
 pub mod Retaken
 pub mod ReadAgain
+pub mod Completed
+pub mod FirstRefused

@@ -103,7 +103,7 @@ kind_spelt spec n l formed names fits small = record {
   key = each_weaker (KeyFits (op_at spec l.a).params (op_at spec l.b).params) (λ (k : Pair). IsSmall k.a × IsSmall k.b) l.key (λ k f. pair_small (op_at spec l.a).params (op_at spec l.b).params k (few_places spec l.a formed) (few_places spec l.b formed) f) fits.key_fits;
 }
 
-kinds_spelt : (spec : Spec) (line : KindLine → TextLine) → ((k : KindLine) → KindSpelt k → IsSpelt (line k)) → (n : ℕ) (kinds : List LockKind) → IsWellFormed spec → HasNames spec → AllByRecursion (LockFits spec) kinds → n + length kinds ≤ 4294967295
+kinds_spelt : (spec : Spec) (line : KindLine → TextLine) → ((k : KindLine) → KindSpelt k → IsSpelt (line k)) → (n : ℕ) (kinds : List LockKind) → IsWellFormed spec → HasNames spec → AllByRecursion (LockFits spec) kinds → n + length kinds ≤ 4294967296
     → AllByRecursion IsSpelt (kinds_said spec line n kinds)
 kinds_spelt spec line so n [] formed names fit small = tt
 kinds_spelt spec line so n (l ∷ kinds) formed names fit small = (so (kind_said spec n l) (kind_spelt spec n l formed names fit.0 (omega (arith, small))), kinds_spelt spec line so (suc n) kinds formed names fit.1 (omega (arith, small)))
@@ -113,7 +113,7 @@ form_spelt n (SepLock i) small h = ((small, h), tt)
 form_spelt n (SepPart i) small h = ((small, h), tt)
 form_spelt n (Refuted d) small h = ((small, h.0), each_map IsSpelt step_line d.steps h.1)
 
-cases_spelt : (n : ℕ) (ls : List CertLine) → n + length ls ≤ 4294967295 → AllByRecursion LineKeepsLimits ls → AllByRecursion IsSpelt (cases_said n ls)
+cases_spelt : (n : ℕ) (ls : List CertLine) → n + length ls ≤ 4294967296 → AllByRecursion LineKeepsLimits ls → AllByRecursion IsSpelt (cases_said n ls)
 cases_spelt n [] small h = tt
 cases_spelt n (l ∷ ls) small h = each_append IsSpelt (form_said n l) (cases_said (suc n) ls) (form_spelt n l (omega (arith, small)) h.0) (cases_spelt (suc n) ls (omega (arith, small)) h.1)
 
@@ -140,14 +140,23 @@ ends_same spec bytes plan c fits is = ap (outcome spec) is ∙ ap (λ (ms : List
 texts_apart : (ls : List TextLine) → AllByRecursion IsSpelt ls → lines_of (flat_map word_line (map line_text ls)) ≡ map line_text ls
 texts_apart ls spelt = lines_again (map line_text ls) (each_map (λ (line : List ℕ). all_plain line ≡ true) line_text ls (each_weaker IsSpelt (λ (l : TextLine). all_plain (line_text l) ≡ true) ls line_plain spelt))
 
-text_again : (spec : Spec) (plan : Plan) (c : Certificate) → PlanFits spec plan → IsReadAgain spec plan c (certificate_text spec plan c)
-text_again spec plan c fits formed names limits =
+-- the lines of the text say it
+pub lines_said : (spec : Spec) (plan : Plan) (c : Certificate) → IsWellFormed spec → HasNames spec → PlanFits spec plan → KeepsLimits plan c → lines_of (certificate_text spec plan c) ≡ map line_text (all_said spec plan.locks plan.parts c.lines)
+lines_said spec plan c formed names fits limits =
     let said = all_said spec plan.locks plan.parts c.lines in
-    let spelt = all_spelt spec plan c formed names fits limits in
     let text : certificate_text spec plan c ≡ flat_map word_line (map line_text said) = sym (all_written spec plan c) ∙ sym (texts_map said) in
-    let cut : lines_of (certificate_text spec plan c) ≡ map line_text said = ap lines_of text ∙ texts_apart said spelt in
-    let read = lines_read spec 1 fresh (at_end plan.locks plan.parts c.lines) said spelt (all_taken spec plan.locks plan.parts c.lines names fits.locks_fit fits.parts_fit fits.once) refl in
-    ends_same spec (lines_of (certificate_text spec plan c)) plan c fits (ap (read_from spec 1 fresh) cut ∙ read)
+    ap lines_of text ∙ texts_apart said (all_spelt spec plan c formed names fits limits)
+
+-- and are taken
+pub lines_taken : (spec : Spec) (plan : Plan) (c : Certificate) → IsWellFormed spec → HasNames spec → PlanFits spec plan → KeepsLimits plan c
+    → read_from spec 1 fresh (lines_of (certificate_text spec plan c)) ≡ Ok (at_end plan.locks plan.parts c.lines)
+lines_taken spec plan c formed names fits limits =
+    let said = all_said spec plan.locks plan.parts c.lines in
+    ap (read_from spec 1 fresh) (lines_said spec plan c formed names fits limits)
+    ∙ lines_read spec 1 fresh (at_end plan.locks plan.parts c.lines) said (all_spelt spec plan c formed names fits limits) (all_taken spec plan.locks plan.parts c.lines names fits.locks_fit fits.parts_fit fits.once) refl
+
+text_again : (spec : Spec) (plan : Plan) (c : Certificate) → PlanFits spec plan → IsReadAgain spec plan c (certificate_text spec plan c)
+text_again spec plan c fits formed names limits = ends_same spec (lines_of (certificate_text spec plan c)) plan c fits (lines_taken spec plan c formed names fits limits)
 
 -- what is printed is read again
 pub printed_again : (spec : Spec) (plan : Plan) (c : Certificate) (text : List ℕ) → PlanFits spec plan → text ≡ certificate_text spec plan c → IsReadAgain spec plan c text

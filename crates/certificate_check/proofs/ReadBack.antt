@@ -62,12 +62,12 @@ read_said : (spec : Spec) (n : ℕ) (d e : Draft) (bytes : List (List ℕ)) → 
 read_said spec n d e [] kept is = ends_here spec n d e (is_end d.stage) refl kept is
 read_said spec n d e (line ∷ bytes) kept is = goes_on spec n d e line bytes (taken spec d line) refl kept is (λ f k more. read_said spec (suc n) f e bytes k more)
 
-nothing_yet : (spec : Spec) → IsKept spec fresh
+pub nothing_yet : (spec : Spec) → IsKept spec fresh
 nothing_yet spec = record { plan = record { locks_fit = tt; parts_fit = tt; once = tt }; shape = (refl, refl, record { lines = refl; steps = refl; missing = refl }) }
 
 -- ---- numbers of lines
 
-length_append : {X : Type 0} (xs ys : List X) → length (xs ++ ys) ≡ length xs + length ys
+pub length_append : {X : Type 0} (xs ys : List X) → length (xs ++ ys) ≡ length xs + length ys
 length_append [] ys = omega arith
 length_append (x ∷ xs) ys = let h = length_append xs ys in omega (arith, h)
 

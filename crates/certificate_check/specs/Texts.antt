@@ -1,5 +1,5 @@
 -- What a text of a plan and a certificate is to what is read from it.
-use Rattle.std.specs.Prelude.{◌≡◌, ◌<◌, ℕ, true, List, length}
+use Rattle.std.specs.Prelude.{◌≡◌, ◌<◌, ◌≤◌, ℕ, suc, true, List, [], ◌∷◌, ◌++◌, length}
 use Rattle.std.specs.List.{AllByRecursion, flat_map}
 use Rattle.certificate_check.specs.Checks.{AreShort}
 use Rattle.certificate_check.specs.Fitting.{op_named}
@@ -43,13 +43,48 @@ LineKeepsLimits (SepLock i) = IsSmall i
 LineKeepsLimits (SepPart i) = IsSmall i
 LineKeepsLimits (Refuted d) = IsSmall (length d.steps) × AllByRecursion StepSpelt d.steps
 
--- each number that stands in the text is at most 4294967295
+-- each number that stands in the text is at most 4294967295; locks, partitions and cases are numbered from 0
 pub record KeepsLimits (plan : Plan) (certificate : Certificate) : Type 0 where
-  pub locks : IsSmall (length plan.locks)
-  pub parts : IsSmall (length plan.parts)
-  pub cases : IsSmall (length certificate.lines)
+  pub locks : length plan.locks ≤ 4294967296
+  pub parts : length plan.parts ≤ 4294967296
+  pub cases : length certificate.lines ≤ 4294967296
   pub lines : AllByRecursion LineKeepsLimits certificate.lines
 
 -- this text is read as the plan and the certificate, where the operations' names tell them apart and numbers keep their limits
 abbrev pub IsReadAgain : Spec → Plan → Certificate → List ℕ → Type 0
 IsReadAgain spec plan certificate text = IsWellFormed spec → HasNames spec → KeepsLimits plan certificate → read_of spec (lines_of text) ≡ Parts plan certificate
+
+-- ---- what is refused
+
+-- the text of this plan and certificate has these lines
+pub record HasLines (spec : Spec) (plan : Plan) (certificate : Certificate) (lines : List (List ℕ)) : Type 0 where
+  pub plan_fits : PlanFits spec plan
+  pub limits : KeepsLimits plan certificate
+  pub lines_are : lines_of (certificate_text spec plan certificate) ≡ lines
+
+-- some text has these lines
+abbrev pub AreText : Spec → List (List ℕ) → Type 0
+AreText spec lines = (plan : Plan) × (certificate : Certificate) × HasLines spec plan certificate lines
+
+-- some text begins with these lines
+abbrev pub Begin : Spec → List (List ℕ) → Type 0
+Begin spec lines = (rest : List (List ℕ)) × AreText spec (lines ++ rest)
+
+-- with the next line they begin no text; where no line follows, they are none
+abbrev pub EndsBadly : Spec → List (List ℕ) → List (List ℕ) → Type 0
+EndsBadly spec front [] = AreText spec front → ⊥
+EndsBadly spec front (line ∷ behind) = Begin spec (front ++ line ∷ []) → ⊥
+
+-- line n is the first with which the lines begin no text, or one more than there are
+pub record IsFirstRefused (spec : Spec) (lines : List (List ℕ)) (n : ℕ) : Type 0 where
+  pub front : List (List ℕ)
+  pub behind : List (List ℕ)
+  pub lines_are : lines ≡ front ++ behind
+  pub number : n ≡ suc (length front)
+  pub begins : Begin spec front
+  pub ends : EndsBadly spec front behind
+
+-- so is the number, where a line was refused
+abbrev pub IfRefused : Read → (ℕ → Type 0) → Type 0
+IfRefused (Parts plan certificate) P = Unit {0}
+IfRefused (Refused line) P = P line

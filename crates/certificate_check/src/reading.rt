@@ -4,7 +4,7 @@ ghost use Rattle.std.specs.Prelude.{◌≡◌, ◌≤◌, length, IfOk};
 ghost use Rattle.line_text.specs.Reads.{Gives};
 ghost use Rattle.spec_model.specs.Fits.{IsWellFormed, marked_from};
 ghost use Rattle.certificate_check.specs.Reading as reading;
-ghost use Rattle.certificate_check.specs.Texts.{IfParts, IsTextOf};
+ghost use Rattle.certificate_check.specs.Texts.{HasNames, IfParts, IfRefused, IsFirstRefused, IsTextOf};
 
 use crate::certificate::Certificate;
 use crate::draft::Draft;
@@ -92,13 +92,15 @@ fn read_lines(alloc: Global, spec: &Spec, lines: &[Text]) -> Result<Read, NoMemo
 /// The plan and certificate that the lines are, or the first line that is refused. Lines are given
 /// without their ends, from the line `plan` on. A number is at most 4294967295, one blank stands
 /// between two words, and no line is passed over.
-#[tactic(auto, using(crate::proofs::ReadBack::text_of_read))]
+#[tactic(auto, using(crate::proofs::ReadBack::text_of_read, crate::proofs::FirstRefused::refused_first))]
 pub fn parse_certificate(alloc: Global, spec: &Spec, lines: &[Text]) -> Result<Read, NoMemory>
     requires well_formed { IsWellFormed spec.now }
     requires short { length lines.now ≤ 4294967294 }
     ensures value { IfOk result (λ r. r ≡ reading.read_of spec.now lines.now) }
     // What is read fits the specification, and the lines are its text.
     ensures text { IfOk result (λ r. IfParts r (IsTextOf spec.now lines.now)) }
+    // Else it is the first line with which the lines begin no text.
+    ensures refused { IfOk result (λ r. HasNames spec.now → IfRefused r (IsFirstRefused spec.now lines.now)) }
 {
     let read = read_lines(alloc, spec, lines)?;
     Ok(read)

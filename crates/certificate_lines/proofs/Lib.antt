@@ -2,3 +2,4 @@ pub mod Cuts
 pub mod Back
 pub mod Again
 pub mod Each
+pub mod Small

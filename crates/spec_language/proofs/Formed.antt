@@ -34,7 +34,7 @@ use Rattle.spec_language.specs.Draft as drafts
 use Rattle.spec_language.specs.AtStart.{at_least, at_most, size_at, tuple_count, starts_at, clause_starts}
 use Rattle.spec_language.specs.Reading.{accept, ends, draft_of, spec_of, spec_of_draft}
 use Rattle.spec_model.specs.Fits as fits
-use Rattle.spec_model.specs.Truths.{Truths, Within, Holds, ClausesHold, var_sorts, signed}
+use Rattle.spec_model.specs.Truths.{Truths, Holds, ClausesHold, var_sorts, signed}
 use Rattle.spec_model.specs.Universe as counts
 use Rattle.spec_model.specs.Bounds.{IsAtLeast, IsAtMost}
 use Rattle.spec_language.proofs.Declared.{sorts_below, vars_below, params_below, literals_fit, terms_fit, places_fit, pred_below, num_below, op_below, one_interval}

@@ -6,3 +6,4 @@ pub mod Declared
 pub mod Formed
 pub mod SaidAgain
 pub mod ReadingSpecs
+pub mod OpNames

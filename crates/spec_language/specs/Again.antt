@@ -1,5 +1,5 @@
 -- The lines that say a specification give it again.
-use Rattle.std.specs.Prelude.{◌≡◌, List, [], ◌∷◌, Result, Ok, Err, ℕ}
+use Rattle.std.specs.Prelude.{◌≡◌, List, [], ◌∷◌, Result, Ok, ℕ}
 use Rattle.line_text.specs.declared.cause.Cause.{Cause}
 use Rattle.line_text.specs.Causes.{◌>>=◌}
 use Rattle.spec_lines.specs.declared.line.SpecLine.{SpecLine}

@@ -5,3 +5,4 @@ pub mod Bounds
 pub mod Saying
 pub mod Again
 pub mod Reading
+pub mod Naming

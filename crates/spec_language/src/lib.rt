@@ -14,7 +14,7 @@ mod saying;
 
 pub use at_start::size_at;
 pub use draft::SpecDraft;
-pub use law::said_again;
+pub use law::{ops_are_named, said_again};
 pub use line_text::{Cause, LineError, ParseError};
 pub use named::{Named, has_name, is_reserved, place_of};
 pub use printing::{print_spec, put_spec};
