@@ -89,7 +89,7 @@ fn variables_of(
 
 /// The number of a variable: its place among these.
 #[tactic(auto, using(crate::proofs::Building::index_step))]
-fn number_of(variables: &[Variable], variable: &Variable) -> usize
+pub(crate) fn number_of(variables: &[Variable], variable: &Variable) -> usize
     ensures value { result ≡ queries.index_of (queries.same_variable variable.now) variables.now }
     ensures fits { result ≤ length variables.now }
 {
@@ -133,10 +133,10 @@ fn push_clause(
 
 /// A query that is being made: its case and its variables.
 #[derive(Clone, Copy, Debug)]
-struct Asked<'a> {
-    spec: &'a Spec,
-    case: &'a Case,
-    variables: &'a [Variable],
+pub(crate) struct Asked<'a> {
+    pub(crate) spec: &'a Spec,
+    pub(crate) case: &'a Case,
+    pub(crate) variables: &'a [Variable],
 }
 
 /// Appends the form of a hypothesis in a state.
@@ -363,7 +363,6 @@ fn query_clauses(
 }
 
 /// The query about the clause at this place, over its hypotheses, atoms and variables.
-
 fn make_query(
     alloc: Global,
     asked: &Asked<'_>,
@@ -387,7 +386,7 @@ fn make_query(
 
 /// The variables of the query of a case about the clause at this place.
 #[tactic(auto, using(crate::proofs::Bounds::few_made))]
-fn case_variables(
+pub(crate) fn case_variables(
     alloc: Global,
     spec: &Spec,
     case: &Case,

@@ -89,8 +89,28 @@ pub fn second_class(spec: &Spec, case: &Case, place: u32) -> Option<u32>
     plain_class(params, front, place as usize)
 }
 
-/// The classes of the target's variables.
-pub(crate) fn target_classes<'a>(spec: &Spec, case: &'a Case) -> &'a [u32]
+/// The classes of a case's first operation, one for each plain parameter.
+pub fn first_classes<'a>(spec: &Spec, case: &'a Case) -> &'a [u32]
+    requires { CaseKnown spec.now case.now }
+    ensures { result.now ≡ take (cases.count_a spec.now case.now) case.now.classes }
+{
+    let params = op_at(spec, case.a).params.as_slice();
+    split_front(case.classes.as_slice(), plain_count(params)).0
+}
+
+/// The classes of a case's second operation, one for each plain parameter.
+pub fn second_classes<'a>(spec: &Spec, case: &'a Case) -> &'a [u32]
+    requires { CaseKnown spec.now case.now }
+    ensures { result.now ≡ take (cases.count_b spec.now case.now) (drop (cases.count_a spec.now case.now) case.now.classes) }
+{
+    let params = op_at(spec, case.b).params.as_slice();
+    let skipped = plain_count(op_at(spec, case.a).params.as_slice());
+    let (_, rest) = split_front(case.classes.as_slice(), skipped);
+    split_front(rest, plain_count(params)).0
+}
+
+/// The classes of the target's variables, or of a locked predicate's places.
+pub fn target_classes<'a>(spec: &Spec, case: &'a Case) -> &'a [u32]
     requires { CaseKnown spec.now case.now }
     ensures { result.now ≡ cases.target_classes spec.now case.now }
 {
