@@ -7,6 +7,10 @@ use Rattle.std.specs.Io.KnownBytes.{Appends, Consumes}
 abbrev pub ConsumesJust : Option (List ℕ) → Option (List ℕ) → ℕ → Type 0
 ConsumesJust old new n = (taken : List ℕ) × (length taken ≡ n) × Consumes old new taken
 
+-- at most so many bytes were taken
+abbrev pub ConsumesWithin : Option (List ℕ) → Option (List ℕ) → ℕ → Type 0
+ConsumesWithin old new n = (taken : List ℕ) × (length taken ≤ n) × Consumes old new taken
+
 -- a write of a piece that isn't empty takes a byte or more
 abbrev pub TakesSome : {E : Type 0} → Result ℕ E → List ℕ → Type 0
 TakesSome result piece = IfOk result (λ n. (n ≤ length piece) × (0 < length piece → 0 < n))

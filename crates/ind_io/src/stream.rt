@@ -5,7 +5,7 @@ ghost use Rattle.std.specs.declared.option.Option.{Option};
 ghost use Rattle.std.specs.Io.{ReadsAtMost};
 ghost use Rattle.std.specs.Io.KnownBytes.{Appends, Consumes, IsAtEnd, ReadConsumes, WriteAppends};
 ghost use Rattle.ind_io.specs.Causes.{Counts, HasCause, HasFault};
-ghost use Rattle.ind_io.specs.Streams.{ConsumesJust, ReadsInTurns, TakesSome, TellsOver, TellsWithin, WritesInTurns};
+ghost use Rattle.ind_io.specs.Streams.{ConsumesJust, ConsumesWithin, ReadsInTurns, TakesSome, TellsOver, TellsWithin, WritesInTurns};
 
 use ind_base::List as Items;
 use std::alloc::Global;
@@ -91,6 +91,7 @@ pub fn read_all<S: Source>(
     ensures within { TellsWithin limit (S.left source.old) → ¬ IsErrOf result ReadAllError.TooLong }
 
     ensures cause { HasFault (S.faults source.old) (S.faults source.new) result ReadAllError.Fault }
+    ensures fault { IsErrOf result ReadAllError.Fault → ConsumesWithin (S.left source.old) (S.left source.new) limit }
     ensures turns { ReadsInTurns (S.left source.old) (S.left source.new) (S.calls source.old) (S.calls source.new) limit }
 {
     let mut all = Items::new(alloc);
