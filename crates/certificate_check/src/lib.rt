@@ -13,4 +13,5 @@ pub use certificate::{CertLine, Certificate};
 pub use judge::check;
 pub use laws::{checked_is_stable, yes_checks};
 pub use print::print_certificate;
+pub use separation::{lock_fits, pair_meets, shares};
 pub use verdict::{Verdict, Why};
