@@ -1,11 +1,12 @@
 -- The cases of declared operations are about declared targets.
 use Rattle.std.proofs.Common.{◌≡◌, zero, refl, Bool, List, [], ap, arith, cond, eqb, false, get_or, length, length-append, map, max, min, suc, true, ℕ, ◌++◌, ◌+◌, ◌<◌, ◌∷◌, ◌≤◌}
 use Rattle.std.proofs.lemmas.List.{length-map}
-use Rattle.std.specs.List.{AllByRecursion, flat_map}
+use Rattle.std.specs.List.{AllByRecursion, filter, flat_map}
 use Rattle.ground_clauses.proofs.Hypotheses.{each_upto}
-use Rattle.ground_clauses.proofs.Lists.{each_append, each_filter, each_flat_map, each_map, each_weaker}
+use Rattle.ground_clauses.proofs.Lists.{each_append, each_both, each_filter, each_flat_map, each_map, each_weaker}
 use Rattle.ground_clauses.proofs.Reaches.{few_plain, few_vars_in}
 use Rattle.ground_clauses.specs.Cases.{TargetKnown, bit_lists, case_at, class_cases, class_count, class_lists, clause_targets, grown, interval_classes, is_touched_case, pair_cases, pattern_sorts, plain_sorts, pred_targets, target_cases, target_sorts, targets, upto_from}
+use Rattle.ground_clauses.specs.Conflicting.{IsTouchedCase}
 use Rattle.ground_clauses.specs.Listing.{CaseFits, RisesFrom}
 use Rattle.ground_clauses.specs.declared.case.Target.{Target}
 use Rattle.ground_clauses.specs.declared.case.Target.TheVariants.{Clause as of_clause, Locked as of_pred}
@@ -80,7 +81,7 @@ bits_known spec a b t cs small la lb lt numbers =
     (bit_lists (interval_classes (class_count (pattern_sorts spec a b t) cs) (op_at spec a).params))
     (λ ba. each_map (CaseFits spec) (λ bb. case_at a b t cs ba bb) (bit_lists (interval_classes (class_count (pattern_sorts spec a b t) cs) (op_at spec b).params))
     (each_always (λ bb. CaseFits spec (case_at a b t cs ba bb)) (bit_lists (interval_classes (class_count (pattern_sorts spec a b t) cs) (op_at spec b).params))
-    (λ bb. record { known = record { known_a = la; known_b = lb; known_target = lt }; rises = numbers.0; few = few_here }))))
+    (λ bb. record { known = record { known_a = la; known_b = lb; known_target = lt }; whole = numbers.1; rises = numbers.0; few = few_here }))))
 
 target_known : (spec : Spec) (a b : ℕ) (t : Target) → IsWellFormed spec → a < length spec.ops → b < length spec.ops → TargetKnown spec t → AllByRecursion (CaseFits spec) (target_cases spec a b t)
 target_known spec a b t wf la lb lt =
@@ -111,3 +112,16 @@ pair_known spec a b wf la lb =
     (each_flat_map (CaseFits spec) (target_cases spec a b) (targets spec)
     (each_weaker (TargetKnown spec) (λ t. AllByRecursion (CaseFits spec) (target_cases spec a b t)) (targets spec) (λ t lt. target_known spec a b t wf la lb lt)
     (each_append (TargetKnown spec) (clause_targets 0 spec.clauses) (pred_targets 0 spec.preds) (clauses_known spec 0 spec.clauses (omega arith)) (preds_known spec 0 spec.preds (omega arith)))))
+
+each_passes : {X : Type 0} (t : X → Bool) (xs : List X) → AllByRecursion (λ x. t x ≡ true) (filter t xs)
+each_passes t [] = tt
+each_passes t (x ∷ xs) = by_test (t x) refl (each_passes t xs)
+  where
+    by_test : (b : Bool) → t x ≡ b → AllByRecursion (λ y. t y ≡ true) (filter t xs) → AllByRecursion (λ y. t y ≡ true) (cond b (x ∷ filter t xs) (filter t xs))
+    by_test true is h = (is, h)
+    by_test false is h = h
+
+pub pair_touched : (spec : Spec) (a b : ℕ) → IsWellFormed spec → a < length spec.ops → b < length spec.ops → AllByRecursion (IsTouchedCase spec) (pair_cases spec a b)
+pair_touched spec a b wf la lb =
+    each_weaker (λ k. CaseFits spec k × (is_touched_case spec k ≡ true)) (IsTouchedCase spec) (pair_cases spec a b) (λ k h. record { fits = h.0; touched = h.1 })
+    (each_both (CaseFits spec) (λ k. is_touched_case spec k ≡ true) (pair_cases spec a b) (pair_known spec a b wf la lb) (each_passes (is_touched_case spec) (flat_map (target_cases spec a b) (targets spec))))

@@ -1,6 +1,7 @@
 pub mod Asking
 pub mod Bits
 pub mod Cases
+pub mod Conflicting
 pub mod Counting
 pub mod Derivations
 pub mod Instances

@@ -49,8 +49,9 @@ listed_from s front =
 abbrev pub touched_of : Spec → ℕ → ℕ → List Target → List Case
 touched_of spec a b ts = filter (is_touched_case spec) (flat_map (target_cases spec a b) ts)
 
--- a case of declared operations and a declared target, whose classes are numbered by first appearance
+-- a case of declared operations and a declared target, with a class for each element of the pattern, numbered by first appearance
 pub record CaseFits (spec : Spec) (k : Case) : Type 0 where
   pub known : CaseKnown spec k
+  pub whole : length k.classes ≡ length (pattern_sorts spec k.a k.b k.target)
   pub rises : RisesFrom 0 k.classes
   pub few : length k.classes ≤ 12

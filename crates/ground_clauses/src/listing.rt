@@ -6,6 +6,7 @@ ghost use Rattle.spec_model.specs.Fits.{IsWellFormed};
 ghost use Rattle.spec_model.specs.Truths as truths;
 ghost use Rattle.ground_clauses.specs.Cases as canon;
 ghost use Rattle.ground_clauses.specs.Cases.{CaseKnown, TargetKnown, pair_cases};
+ghost use Rattle.ground_clauses.specs.Conflicting.{IsTouchedCase};
 ghost use Rattle.ground_clauses.specs.Listing.{CaseFits, first_bits, second_bits, IsShape, RisesFrom, limit_at, listed_from, touched_of};
 
 use crate::case::{Case, Target};
@@ -289,13 +290,14 @@ fn list_cases(alloc: Global, spec: &Spec, a: u32, b: u32) -> Result<List<Case>, 
 
 /// The touched cases of the operations `a` and `b`, in canonical order. Going over them takes no
 /// memory.
-#[tactic(auto, using(crate::proofs::Known::pair_known))]
+#[tactic(auto, using(crate::proofs::Known::pair_known, crate::proofs::Known::pair_touched))]
 pub fn cases(alloc: Global, spec: &Spec, a: u32, b: u32) -> Result<Cases, NoMemory>
     requires well_formed { IsWellFormed spec.now }
     requires known_a { a < length spec.now.ops }
     requires known_b { b < length spec.now.ops }
     ensures value { IfOk result (λ left. left ≡ pair_cases spec.now a b) }
     ensures fits { IfOk result (λ left. AllByRecursion (CaseFits spec.now) left) }
+    ensures touched { IfOk result (λ left. AllByRecursion (IsTouchedCase spec.now) left) }
 {
     let found = list_cases(alloc, spec, a, b)?;
     Ok(Cases::over(found))

