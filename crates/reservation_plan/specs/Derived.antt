@@ -1,13 +1,12 @@
 -- The derived plan: one reservation for each pair of operations that has a conflicting case.
-use Rattle.std.specs.Prelude.{ℕ, ◌-◌, Bool, true, ◌&&◌, not, if◌then◌else◌, eqb, ltb, List, [], ◌∷◌, length, get_or, map, flat_map, Option, Some, None}
+use Rattle.std.specs.Prelude.{ℕ, ◌-◌, Bool, true, false, ◌&&◌, not, if◌then◌else◌, eqb, List, [], ◌∷◌, length, get_or, map, flat_map, Option, Some, None}
 use Rattle.std.specs.List.{list_all}
 use Rattle.certificate_check.specs.Separation.{lowest, pair_meets, shares}
 use Rattle.ground_clauses.specs.Cases.{upto_from}
 use Rattle.ground_clauses.specs.Derivations.{is_nil}
 use Rattle.ground_clauses.specs.declared.case.Case.{Case}
 use Rattle.reservation_plan.specs.Conflicts.{conflicts}
-use Rattle.spec_model.specs.Fits.{has_interval, marked_from}
-use Rattle.spec_model.specs.Separated.{interval_place}
+use Rattle.spec_model.specs.Fits.{marked_from}
 use Rattle.spec_model.specs.Truths.{no_var, op_at, sort_of}
 use Rattle.spec_model.specs.declared.clause.Var.{Var}
 use Rattle.spec_model.specs.declared.plan.LockKind.{LockKind}
@@ -48,10 +47,19 @@ key_of spec a b ks = flat_map (key_at spec a b ks) (upto_from 0 (length (params_
 
 -- ---- reservations, by the conflicting cases of a pair
 
+-- the sort of the interval parameter
+abbrev pub interval_sort : List Var → Option ℕ
+interval_sort [] = None
+interval_sort (p ∷ params) = if p.interval then Some p.sort else interval_sort params
+
+abbrev pub same_sort : Option ℕ → Option ℕ → Bool
+same_sort (Some s) (Some t) = eqb s t
+same_sort (Some s) None = false
+same_sort None t = false
+
 -- both operations have an interval parameter, of one sort
 abbrev pub intervals_match : Spec → ℕ → ℕ → Bool
-intervals_match spec a b =
-    has_interval (params_of spec a) && (has_interval (params_of spec b) && eqb (sort_of (params_of spec a) (interval_place (params_of spec a))) (sort_of (params_of spec b) (interval_place (params_of spec b))))
+intervals_match spec a b = same_sort (interval_sort (params_of spec a)) (interval_sort (params_of spec b))
 
 -- and in each of these cases some class lies in both intervals
 abbrev pub is_partitioned : Spec → ℕ → ℕ → List Case → Bool

@@ -3,5 +3,10 @@
 #![tactic(auto)]
 
 mod analysed;
+mod drafting;
+mod judging;
+mod planning;
+mod reserving;
 
 pub use analysed::{Analysed, DeriveError};
+pub use planning::derive;
