@@ -3,7 +3,7 @@
 ghost use Rattle.std.specs.Prelude.{◌<◌, ◌≤◌, IsTrue};
 ghost use Rattle.std.specs.List.{AllByRecursion};
 ghost use Rattle.ground_clauses.specs.declared.clauses.Lit.{Lit as GroundLit};
-ghost use Rattle.clause_solver.specs.Models.{SpeaksOf};
+ghost use Rattle.ground_clauses.specs.Derivations.{SpeaksOf};
 
 use ground_clauses::{Cnf, Lit};
 use ind_base::{List, NoMemory};

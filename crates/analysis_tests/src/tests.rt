@@ -1,6 +1,6 @@
 //! Models, refutations and counts of cases.
 
-ghost use Rattle.clause_solver.specs.Models.{SpeaksOf};
+ghost use Rattle.ground_clauses.specs.Derivations.{SpeaksOf};
 
 use crate::derivations::refutes;
 use crate::documents::{APART, CHAINS, CUP, ROOMS, decided, spec_of};

@@ -7,7 +7,7 @@ use Rattle.std.proofs.lemmas.Bool.{and_from, and_parts, cases_Bool, cases_eq, ca
 use Rattle.std.proofs.lemmas.List.{get_or-set_other, get_or-set_same, length-map}
 use Rattle.ground_clauses.proofs.Derives.{step_true}
 use Rattle.ground_clauses.proofs.Lists.{each_append, each_both, each_weaker}
-use Rattle.ground_clauses.specs.Derivations.{Solves, ends_empty, is_nil, is_right, lit_true, steps_right}
+use Rattle.ground_clauses.specs.Derivations.{Solves, SpeaksOf, ends_empty, is_nil, is_right, lit_true, steps_right}
 use Rattle.ground_clauses.specs.declared.clauses.Cnf.{Cnf}
 use Rattle.ground_clauses.specs.declared.clauses.Lit.{Lit}
 use Rattle.ground_clauses.specs.declared.clauses.Step.{Step}
@@ -15,7 +15,7 @@ use Rattle.clause_solver.proofs.Marks.{blank_open}
 use Rattle.clause_solver.proofs.Steps.{is_yes-cases, value_not_open}
 use Rattle.clause_solver.specs.Assigning.{is_truth, is_yes, left, lit_false, value_at, value_of, with_lit}
 use Rattle.clause_solver.specs.Learned.{IsSearch, rows_of}
-use Rattle.clause_solver.specs.Models.{IsAtMost, IsLeastModel, IsModel, SpeaksOf, truth_in}
+use Rattle.clause_solver.specs.Models.{IsAtMost, IsLeastModel, IsModel, truth_in}
 use Rattle.clause_solver.specs.Search.{IsConflict, KnownBelow}
 use Rattle.clause_solver.specs.Trails.{Follow, IsCause, IsEntry, IsTrail, blank, values_after}
 use Rattle.clause_solver.specs.declared.assignment.Cause.{Cause}

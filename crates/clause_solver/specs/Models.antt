@@ -1,15 +1,9 @@
 -- Models of clauses, and the least of them.
 use Rattle.std.specs.Prelude.{◌≡◌, ℕ, ◌<◌, Bool, true, false, List, length, get_or}
-use Rattle.std.specs.List.{AllByRecursion}
 use Rattle.ground_clauses.specs.Derivations.{Solves, refutes}
 use Rattle.ground_clauses.specs.declared.clauses.Cnf.{Cnf}
-use Rattle.ground_clauses.specs.declared.clauses.Lit.{Lit}
 use Rattle.clause_solver.specs.declared.answer.Answer.{Answer}
 use Rattle.clause_solver.specs.declared.answer.Answer.TheVariants.{Model, Refuted}
-
--- each clause speaks of the first variables alone
-abbrev pub SpeaksOf : ℕ → List (List Lit) → Type 0
-SpeaksOf vars clauses = AllByRecursion (λ c. AllByRecursion (λ (x : Lit). x.var < vars) c) clauses
 
 -- the truth of a variable
 abbrev pub truth_in : List Bool → ℕ → Bool

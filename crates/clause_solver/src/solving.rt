@@ -1,11 +1,11 @@
 //! Models and refutations, by conflict-driven search in the order of the variables.
 
 ghost use Rattle.std.specs.Prelude.{◌≡◌, ℕ, ◌<◌, ◌≤◌, length, true, map, Err, IsTrue, IfOk, IfSome, IfNone};
-ghost use Rattle.ground_clauses.specs.Derivations.{ends_empty};
+ghost use Rattle.ground_clauses.specs.Derivations.{SpeaksOf, ends_empty};
 ghost use Rattle.ground_clauses.specs.declared.clauses.Cnf.{Cnf as GroundCnf};
 ghost use Rattle.clause_solver.specs.Assigning.{is_yes};
 ghost use Rattle.clause_solver.specs.Learned.{IsSearch};
-ghost use Rattle.clause_solver.specs.Models.{IsAnswer, IsLeastModel, SpeaksOf};
+ghost use Rattle.clause_solver.specs.Models.{IsAnswer, IsLeastModel};
 ghost use Rattle.clause_solver.specs.Search.{IsConflict};
 ghost use Rattle.clause_solver.specs.Trails.{IsTrail};
 ghost use Rattle.clause_solver.specs.declared.answer.SolveError.TheVariants as errors;

@@ -1,14 +1,15 @@
 //! Deciding a case: the least model of its query, or a derivation that there is none.
 
 ghost use Rattle.std.specs.Prelude.{◌≡◌, ℕ, ◌<◌, ◌↔◌, true, false, IfOk, Err};
+ghost use Rattle.clause_solver.specs.Models.{IsAnswer};
 ghost use Rattle.clause_solver.specs.declared.answer.SolveError.TheVariants as errors;
 ghost use Rattle.conflict_pairs.specs.Decisions.{IsDecision, IsHard, tells_conflict};
 ghost use Rattle.ground_clauses.specs.Cases.{cnf_of};
 ghost use Rattle.ground_clauses.specs.Conflicting.{IsConflicting, IsTouchedCase};
 ghost use Rattle.spec_model.specs.Fits.{IsWellFormed};
 
-use clause_solver::SolveError;
-use ground_clauses::{Case, Derivation};
+use clause_solver::{Answer, SolveError, solve};
+use ground_clauses::{Case, Derivation, Target, query};
 use ind_base::List;
 use spec_model::Spec;
 use std::alloc::Global;
@@ -24,8 +25,38 @@ pub enum Decided {
     Refuted(Derivation),
 }
 
+/// The solver's answer to a touched case's query.
+fn answer(alloc: Global, spec: &Spec, case: &Case) -> Result<Answer, SolveError>
+    requires well_formed { IsWellFormed spec.now }
+    requires touched { IsTouchedCase spec.now case.now }
+    ensures answer { IfOk result (λ found. IsAnswer (cnf_of spec.now case.now) found) }
+    ensures easy { IfOk result (λ found. IsHard spec.now case.now → ⊥) }
+    ensures cause { (n : ℕ) → result ≡ Err (errors.TooHard n) → IsHard spec.now case.now × (n ≡ (cnf_of spec.now case.now).vars) }
+{
+    let cnf = query(alloc, spec, case)?;
+    solve(alloc, &cnf)
+}
+
+/// What is found of a touched case.
+fn found(alloc: Global, spec: &Spec, case: &Case) -> Result<Decided, SolveError>
+    requires well_formed { IsWellFormed spec.now }
+    requires touched { IsTouchedCase spec.now case.now }
+    ensures decision { IfOk result (λ found. IsDecision spec.now case.now found) }
+    ensures easy { IfOk result (λ found. IsHard spec.now case.now → ⊥) }
+    ensures cause { (n : ℕ) → result ≡ Err (errors.TooHard n) → IsHard spec.now case.now × (n ≡ (cnf_of spec.now case.now).vars) }
+{
+    if let Target::Locked(_) = case.target {
+        return Ok(Decided::Opposes);
+    }
+    match answer(alloc, spec, case)? {
+        Answer::Model(model) => Ok(Decided::Model(model)),
+        Answer::Refuted(derivation) => Ok(Decided::Refuted(derivation)),
+    }
+}
+
 /// Decides a touched case, such as `cases` gives. `TooHard` comes exactly where the query has more
 /// than 128 variables; `Memory` may come at any case of a clause.
+#[tactic(auto, using(crate::proofs::Deciding::decision_tells, crate::proofs::Deciding::decision_clears))]
 pub fn decide(alloc: Global, spec: &Spec, case: &Case) -> Result<Decided, SolveError>
     requires well_formed { IsWellFormed spec.now }
     requires touched { IsTouchedCase spec.now case.now }
@@ -37,5 +68,6 @@ pub fn decide(alloc: Global, spec: &Spec, case: &Case) -> Result<Decided, SolveE
     ensures easy { IfOk result (λ found. IsHard spec.now case.now → ⊥) }
     ensures cause { (n : ℕ) → result ≡ Err (errors.TooHard n) → IsHard spec.now case.now × (n ≡ (cnf_of spec.now case.now).vars) }
 {
-    Err(SolveError::Memory)
+    let decided = found(alloc, spec, case)?;
+    Ok(decided)
 }

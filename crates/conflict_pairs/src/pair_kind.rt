@@ -2,12 +2,14 @@
 
 ghost use Rattle.std.specs.Prelude.{◌≡◌, ℕ, ◌<◌, ◌≤◌, length, IfOk, Err};
 ghost use Rattle.clause_solver.specs.declared.answer.SolveError.TheVariants as errors;
+ghost use Rattle.conflict_pairs.specs.Kinds as kinds;
 ghost use Rattle.conflict_pairs.specs.Kinds.{IsKind, IsStuck};
 ghost use Rattle.ground_clauses.specs.Cases.{pair_cases};
 ghost use Rattle.spec_model.specs.Fits.{IsWellFormed};
 
+use crate::decided::{Decided, decide};
 use clause_solver::SolveError;
-use ground_clauses::Case;
+use ground_clauses::{Case, Target, cases};
 use ind_base::List;
 use spec_model::Spec;
 use std::alloc::Global;
@@ -25,6 +27,16 @@ pub enum PairKind {
     Free,
 }
 
+/// The first predicate that opposes, once a case with this target was passed.
+fn opposing_after(found: Option<u32>, target: Target) -> Option<u32>
+    ensures { result ≡ kinds.opposing_after found target }
+{
+    match (found, target) {
+        (None, Target::Locked(pred)) => Some(pred),
+        _ => found,
+    }
+}
+
 /// What the operations `a` and `b` do to one another. `TooHard` comes exactly where the query of a
 /// case has more than 128 variables and no earlier case in canonical order has a model.
 pub fn classify(alloc: Global, spec: &Spec, a: u32, b: u32) -> Result<PairKind, SolveError>
@@ -35,5 +47,17 @@ pub fn classify(alloc: Global, spec: &Spec, a: u32, b: u32) -> Result<PairKind, 
     ensures easy { IfOk result (λ kind. (n : ℕ) → IsStuck spec.now (pair_cases spec.now a b) n → ⊥) }
     ensures cause { (n : ℕ) → result ≡ Err (errors.TooHard n) → IsStuck spec.now (pair_cases spec.now a b) n }
 {
-    Err(SolveError::Memory)
+    let mut opposing = None;
+    let mut left = cases(alloc, spec, a, b)?;
+    'going: while let Some(case) = left.next() {
+        match decide(alloc, spec, &case)? {
+            Decided::Model(model) => return Ok(PairKind::Violating { case, model }),
+            Decided::Opposes => opposing = opposing_after(opposing, case.target),
+            Decided::Refuted(_) => {}
+        }
+    }
+    match opposing {
+        Some(pred) => Ok(PairKind::Opposing { pred }),
+        None => Ok(PairKind::Free),
+    }
 }

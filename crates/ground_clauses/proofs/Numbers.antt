@@ -96,7 +96,7 @@ four First = refl
 four Second = refl
 four Both = refl
 
-own_listed : (spec : Spec) (sets : Sets) (atoms : List ClassAtom) (a : ClassAtom) (k : Moment) → list_any (same_atom a) atoms ≡ true → entry_at spec sets a k ≡ Same k
+pub own_listed : (spec : Spec) (sets : Sets) (atoms : List ClassAtom) (a : ClassAtom) (k : Moment) → list_any (same_atom a) atoms ≡ true → entry_at spec sets a k ≡ Same k
     → list_any (same_variable (variable a k)) (flat_map (atom_variables spec sets) atoms) ≡ true
 own_listed spec sets atoms a k listed own =
     any_flat_map (same_atom a) (same_variable (variable a k)) (atom_variables spec sets) atoms

@@ -1,9 +1,13 @@
 -- Models of clauses, and derivations from them.
-use Rattle.std.specs.Prelude.{◌≡◌, ℕ, Bool, true, false, ◌&&◌, ◌||◌, not, eqb, List, [], ◌∷◌, ◌++◌, filter, slice_get, Some, None, Option}
+use Rattle.std.specs.Prelude.{◌≡◌, ℕ, ◌<◌, Bool, true, false, ◌&&◌, ◌||◌, not, eqb, List, [], ◌∷◌, ◌++◌, filter, slice_get, Some, None, Option}
 use Rattle.std.specs.List.{list_any, AllByRecursion}
 use mathlib.Core.Bool.{beq}
 use Rattle.ground_clauses.specs.declared.clauses.Lit.{Lit}
 use Rattle.ground_clauses.specs.declared.clauses.Step.{Step}
+
+-- each clause speaks of the first variables alone
+abbrev pub SpeaksOf : ℕ → List (List Lit) → Type 0
+SpeaksOf vars clauses = AllByRecursion (λ c. AllByRecursion (λ (x : Lit). x.var < vars) c) clauses
 
 abbrev pub lit_true : (ℕ → Bool) → Lit → Bool
 lit_true v x = beq (v x.var) x.yes

@@ -10,3 +10,4 @@ pub mod Listing
 pub mod Literals
 pub mod Numbering
 pub mod Query
+pub mod States

@@ -4,9 +4,9 @@ ghost use Rattle.std.specs.Prelude.{◌≡◌, ◌<◌, ◌≤◌, ◌+◌, ◌+
 ghost use Rattle.spec_model.specs.Truths as truths;
 ghost use Rattle.spec_model.specs.Fits.{IsWellFormed};
 ghost use Rattle.ground_clauses.specs.Cases as cases;
-ghost use Rattle.ground_clauses.specs.Cases.{TargetKnown};
+ghost use Rattle.ground_clauses.specs.Cases.{CaseKnown, TargetKnown};
 
-use crate::case::Target;
+use crate::case::{Case, Target};
 use crate::places::{clause_at, op_at, pred_at};
 use spec_model::{Classes, Spec, Var};
 
@@ -105,4 +105,15 @@ pub(crate) fn class_count(sorts: &[u32], classes: &[u32], sort: u32) -> u64
         left = rest;
     }
     count
+}
+
+/// How many classes of this sort a case has.
+pub fn classes_in(spec: &Spec, case: &Case, sort: u32) -> u64
+    requires well_formed { IsWellFormed spec.now }
+    requires known { CaseKnown spec.now case.now }
+    ensures value { result ≡ cases.classes_in spec.now case.now sort }
+    ensures fits { result ≤ 4294967296 }
+{
+    let sorts = pattern_sorts(spec, case.a, case.b, case.target);
+    class_count(sorts.as_slice(), case.classes.as_slice(), sort)
 }

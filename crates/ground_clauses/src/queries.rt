@@ -1,12 +1,13 @@
 //! The query of a case.
 
-ghost use Rattle.std.specs.Prelude.{◌≡◌, ◌<◌, ◌≤◌, ◌+◌, ◌^◌, ◌++◌, ◌∷◌, [], length, map, IfOk, OnOk};
+ghost use Rattle.std.specs.Prelude.{◌≡◌, true, ◌<◌, ◌≤◌, ◌+◌, ◌^◌, ◌++◌, ◌∷◌, [], length, map, IfOk, OnOk};
 ghost use Rattle.std.specs.List.{flat_map};
 ghost use Rattle.spec_model.specs.Fits.{IsWellFormed};
 ghost use Rattle.spec_model.specs.Stable as stable;
 ghost use Rattle.ground_clauses.specs.Cases as cases;
 ghost use Rattle.ground_clauses.specs.Cases.{CaseKnown};
 ghost use Rattle.ground_clauses.specs.Asking.{CanAsk, pieces, denial_clauses, form_clauses, instance_clauses, rise_clauses, row_clauses, sets_in};
+ghost use Rattle.ground_clauses.specs.Derivations.{SpeaksOf};
 ghost use Rattle.ground_clauses.specs.Listing.{CaseFits};
 ghost use Rattle.ground_clauses.specs.Instances.{instance_of};
 ghost use Rattle.spec_model.specs.declared.state.Touch.TheVariants.{Loses};
@@ -88,7 +89,7 @@ fn variables_of(
 
 /// The number of a variable: its place among these.
 #[tactic(auto, using(crate::proofs::Building::index_step))]
-fn number_of(variables: &[Variable], variable: &Variable) -> usize
+pub(crate) fn number_of(variables: &[Variable], variable: &Variable) -> usize
     ensures value { result ≡ queries.index_of (queries.same_variable variable.now) variables.now }
     ensures fits { result ≤ length variables.now }
 {
@@ -132,10 +133,10 @@ fn push_clause(
 
 /// A query that is being made: its case and its variables.
 #[derive(Clone, Copy, Debug)]
-struct Asked<'a> {
-    spec: &'a Spec,
-    case: &'a Case,
-    variables: &'a [Variable],
+pub(crate) struct Asked<'a> {
+    pub(crate) spec: &'a Spec,
+    pub(crate) case: &'a Case,
+    pub(crate) variables: &'a [Variable],
 }
 
 /// Appends the form of a hypothesis in a state.
@@ -362,7 +363,6 @@ fn query_clauses(
 }
 
 /// The query about the clause at this place, over its hypotheses, atoms and variables.
-
 fn make_query(
     alloc: Global,
     asked: &Asked<'_>,
@@ -386,7 +386,7 @@ fn make_query(
 
 /// The variables of the query of a case about the clause at this place.
 #[tactic(auto, using(crate::proofs::Bounds::few_made))]
-fn case_variables(
+pub(crate) fn case_variables(
     alloc: Global,
     spec: &Spec,
     case: &Case,
@@ -423,10 +423,12 @@ fn clause_query(alloc: Global, spec: &Spec, case: &Case, place: u32) -> Result<C
 
 /// The query of a case about a clause. A model of it is a way in which the two operations, each
 /// harmless alone, make the clause false together.
+#[tactic(auto, using(crate::proofs::Speaking::query_speaks))]
 pub fn query(alloc: Global, spec: &Spec, case: &Case) -> Result<Cnf, NoMemory>
     requires well_formed { IsWellFormed spec.now }
     requires fits { CaseFits spec.now case.now }
-    ensures { IfOk result (λ cnf. cnf ≡ cases.cnf_of spec.now case.now) }
+    ensures value { IfOk result (λ cnf. cnf ≡ cases.cnf_of spec.now case.now) }
+    ensures own { cases.is_touched_case spec.now case.now ≡ true → SpeaksOf (cases.cnf_of spec.now case.now).vars (cases.cnf_of spec.now case.now).clauses }
 {
     match case.target {
         Target::Clause(place) => clause_query(alloc, spec, case, place),

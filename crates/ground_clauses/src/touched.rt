@@ -50,9 +50,13 @@ pub(crate) fn first_sets(spec: &Spec, case: &Case, pred: u32, args: &[u32]) -> O
     requires { CaseKnown spec.now case.now }
     ensures { result ≡ (cases.case_sets spec.now case.now).one pred args.now }
 {
-    let op = op_at(spec, case.a);
-    let (front, _) = split_front(case.classes.as_slice(), plain_count(op.params.as_slice()));
-    op_sets(op, front, case.bits_a, pred, args)
+    op_sets(
+        op_at(spec, case.a),
+        first_classes(spec, case),
+        case.bits_a,
+        pred,
+        args,
+    )
 }
 
 /// What the second operation of a case sets an atom to.
@@ -60,11 +64,13 @@ pub(crate) fn second_sets(spec: &Spec, case: &Case, pred: u32, args: &[u32]) -> 
     requires { CaseKnown spec.now case.now }
     ensures { result ≡ (cases.case_sets spec.now case.now).other pred args.now }
 {
-    let op = op_at(spec, case.b);
-    let skipped = plain_count(op_at(spec, case.a).params.as_slice());
-    let (_, rest) = split_front(case.classes.as_slice(), skipped);
-    let (front, _) = split_front(rest, plain_count(op.params.as_slice()));
-    op_sets(op, front, case.bits_b, pred, args)
+    op_sets(
+        op_at(spec, case.b),
+        second_classes(spec, case),
+        case.bits_b,
+        pred,
+        args,
+    )
 }
 
 /// The class of a plain parameter, by its place, of a case's first operation.
@@ -73,8 +79,7 @@ pub fn first_class(spec: &Spec, case: &Case, place: u32) -> Option<u32>
     ensures { result ≡ cases.class_a spec.now case.now place }
 {
     let params = op_at(spec, case.a).params.as_slice();
-    let (front, _) = split_front(case.classes.as_slice(), plain_count(params));
-    plain_class(params, front, place as usize)
+    plain_class(params, first_classes(spec, case), place as usize)
 }
 
 /// The class of a plain parameter, by its place, of a case's second operation.
@@ -83,14 +88,31 @@ pub fn second_class(spec: &Spec, case: &Case, place: u32) -> Option<u32>
     ensures { result ≡ cases.class_b spec.now case.now place }
 {
     let params = op_at(spec, case.b).params.as_slice();
-    let skipped = plain_count(op_at(spec, case.a).params.as_slice());
-    let (_, rest) = split_front(case.classes.as_slice(), skipped);
-    let (front, _) = split_front(rest, plain_count(params));
-    plain_class(params, front, place as usize)
+    plain_class(params, second_classes(spec, case), place as usize)
 }
 
-/// The classes of the target's variables.
-pub(crate) fn target_classes<'a>(spec: &Spec, case: &'a Case) -> &'a [u32]
+/// The classes of a case's first operation, one for each plain parameter.
+pub fn first_classes<'a>(spec: &Spec, case: &'a Case) -> &'a [u32]
+    requires { CaseKnown spec.now case.now }
+    ensures { result.now ≡ take (cases.count_a spec.now case.now) case.now.classes }
+{
+    let params = op_at(spec, case.a).params.as_slice();
+    split_front(case.classes.as_slice(), plain_count(params)).0
+}
+
+/// The classes of a case's second operation, one for each plain parameter.
+pub fn second_classes<'a>(spec: &Spec, case: &'a Case) -> &'a [u32]
+    requires { CaseKnown spec.now case.now }
+    ensures { result.now ≡ take (cases.count_b spec.now case.now) (drop (cases.count_a spec.now case.now) case.now.classes) }
+{
+    let params = op_at(spec, case.b).params.as_slice();
+    let skipped = plain_count(op_at(spec, case.a).params.as_slice());
+    let (_, rest) = split_front(case.classes.as_slice(), skipped);
+    split_front(rest, plain_count(params)).0
+}
+
+/// The classes of the target's variables, or of a locked predicate's places.
+pub fn target_classes<'a>(spec: &Spec, case: &'a Case) -> &'a [u32]
     requires { CaseKnown spec.now case.now }
     ensures { result.now ≡ cases.target_classes spec.now case.now }
 {

@@ -1,5 +1,5 @@
 use Rattle.std.proofs.Common.{take}
-use Rattle.clause_solver.specs.Models.{SpeaksOf}
+use Rattle.ground_clauses.specs.Derivations.{SpeaksOf}
 use Rattle.analysis_tests.proofs.samples.all_within.Given as goal
 
 abbrev pub invariant-loop-clause : goal.invariant-loop-clause

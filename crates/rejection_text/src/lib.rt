@@ -1,0 +1,7 @@
+//! The text of a rejected pair of operations.
+#![tactic(auto)]
+
+mod lines;
+mod parts;
+
+pub use lines::put_rejection;
