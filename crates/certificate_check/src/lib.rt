@@ -17,4 +17,5 @@ pub use judge::check;
 pub use laws::{checked_is_stable, yes_checks};
 pub use print::print_certificate;
 pub use reading::{Read, parse_certificate};
+pub use separation::{lock_fits, pair_meets, shares};
 pub use verdict::{Verdict, Why};

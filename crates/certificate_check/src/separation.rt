@@ -10,7 +10,7 @@ use spec_model::{LockKind, Pair, Spec};
 
 /// Whether the parameters at these places have equal classes.
 #[tactic(auto, using(crate::proofs::Keys::classes_meet))]
-fn pair_meets(spec: &Spec, case: &Case, pair: &Pair) -> bool
+pub fn pair_meets(spec: &Spec, case: &Case, pair: &Pair) -> bool
     requires { CaseKnown spec.now case.now }
     ensures { result ≡ separation.pair_meets spec.now case.now pair.now }
 {
@@ -37,7 +37,7 @@ fn key_meets(spec: &Spec, case: &Case, key: &[Pair]) -> bool
 }
 
 /// Whether a lock is of the case's operations, and its key has equal classes.
-fn lock_fits(spec: &Spec, case: &Case, lock: &LockKind) -> bool
+pub fn lock_fits(spec: &Spec, case: &Case, lock: &LockKind) -> bool
     requires { CaseKnown spec.now case.now }
     ensures { result ≡ separation.lock_fits spec.now case.now lock.now }
 {
@@ -46,7 +46,7 @@ fn lock_fits(spec: &Spec, case: &Case, lock: &LockKind) -> bool
 
 /// Whether some class lies in both intervals.
 #[tactic(auto, using(crate::proofs::Keys::shares_step, crate::proofs::Keys::shared_at))]
-fn shares(case: &Case) -> bool
+pub fn shares(case: &Case) -> bool
     ensures { result ≡ separation.shares case.now }
 {
     for class in 0..case.classes.len() as u32 {

@@ -1,0 +1,8 @@
+use Rattle.reservation_plan.proofs.Steps.{answer_fits, answer_stable}
+use Rattle.reservation_plan.proofs.planning.derive.Goals as goal
+
+pub returns-clause-fits : goal.returns-clause-fits
+returns-clause-fits c = answer_fits c.args.spec.now c.analyse.result c.analyse.ensures.plan
+
+pub returns-clause-stable : goal.returns-clause-stable
+returns-clause-stable c = answer_stable c.args.spec.now c.analyse.result c.requires c.analyse.ensures.plan c.analyse.ensures.checks

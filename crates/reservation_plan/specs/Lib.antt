@@ -1,0 +1,5 @@
+pub mod Conflicts
+pub mod Derived
+pub mod Drafting
+pub mod Ends
+pub mod Judging
