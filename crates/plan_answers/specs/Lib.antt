@@ -1,3 +1,4 @@
 pub mod Texts
 pub mod Checking
+pub mod Analysing
 pub mod Splitting

@@ -104,7 +104,7 @@ fn refused(alloc: Global, line: u128) -> Result<Answer, NoMemory>
 fn judged(
     alloc: Global,
     spec: &Spec,
-    before: u32,
+    before: usize,
     plan: &Plan,
     certificate: &Certificate,
 ) -> Result<Answer, NoMemory>
@@ -121,21 +121,26 @@ fn judged(
         Verdict::No { case, why } => {
             refused(
                 alloc,
-                u128::from(before) + failing_line(plan, certificate, case, why),
+                before as u128 + failing_line(plan, certificate, case, why),
             )
         }
     }
 }
 
 /// The answer to the lines of a plan and a certificate behind so many other lines.
-fn read_answer(alloc: Global, spec: &Spec, before: u32, lines: &[Text]) -> Result<Answer, NoMemory>
+fn read_answer(
+    alloc: Global,
+    spec: &Spec,
+    before: usize,
+    lines: &[Text],
+) -> Result<Answer, NoMemory>
     requires well_formed { IsWellFormed spec.now }
     requires short { length lines.now ≤ 4294967294 }
     ensures { IfOk result (λ a. checks.IsRead spec.now before lines.now a.status a.text) }
 {
     match parse_certificate(alloc, spec, lines)? {
         Read::Parts { plan, certificate } => judged(alloc, spec, before, &plan, &certificate),
-        Read::Refused { line } => refused(alloc, u128::from(before) + u128::from(line)),
+        Read::Refused { line } => refused(alloc, before as u128 + u128::from(line)),
     }
 }
 
@@ -146,7 +151,7 @@ fn read_answer(alloc: Global, spec: &Spec, before: u32, lines: &[Text]) -> Resul
 pub fn check_answer(
     alloc: Global,
     spec: &Spec,
-    before: u32,
+    before: usize,
     lines: &[Text],
 ) -> Result<Answer, NoMemory>
     requires well_formed { IsWellFormed spec.now }

@@ -2,10 +2,12 @@
 //! status and a text.
 #![tactic(auto)]
 
+mod analysing;
 mod answer;
 mod checking;
 mod splitting;
 
+pub use analysing::analyse_answer;
 pub use answer::Answer;
 pub use checking::check_answer;
-pub use splitting::{lines, split_at_plan};
+pub use splitting::{line_count, lines, split_at_plan};

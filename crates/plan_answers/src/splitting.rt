@@ -1,6 +1,6 @@
 //! Where a document ends and a plan begins.
 
-ghost use Rattle.std.specs.Prelude.{◌≡◌, ◌<◌, ◌≤◌, ◌++◌, IfOk, length, take, drop};
+ghost use Rattle.std.specs.Prelude.{◌≡◌, ◌<◌, ◌≤◌, ◌+◌, ◌++◌, IfOk, length, take, drop};
 ghost use Rattle.line_text.specs.Lines.{lines_of};
 ghost use Rattle.plan_answers.specs.Splitting.{IsFirstLine, has_plan_first, document_lines, plan_lines};
 
@@ -55,6 +55,20 @@ pub fn split_at_plan(bytes: &[u8]) -> (&[u8], &[u8])
 {
     let (front, rest) = bytes.split_at(plan_place(bytes));
     (front, rest)
+}
+
+/// How many lines a text has.
+pub fn line_count(bytes: &[u8]) -> usize
+    ensures value { result ≡ length (lines_of bytes.now) }
+{
+    let mut count = 0;
+    let mut rest = bytes;
+    'going: while !rest.is_empty() {
+        let (_, others) = split_line(rest);
+        count += 1;
+        rest = others;
+    }
+    count
 }
 
 /// The lines of a text, each in a value of its own.

@@ -1,0 +1,66 @@
+-- What is answered to a specification that is analysed.
+use Rattle.std.specs.Prelude.{◌≡◌, ◌⊎◌, ℕ, ◌<◌, ◌≤◌, Bool, List, [], ◌∷◌, ◌++◌, codes, decimal, Option, None}
+use Rattle.std.specs.List.{find}
+use Rattle.certificate_check.specs.Checks.{AreShort, Checks}
+use Rattle.certificate_check.specs.Printed.{certificate_text}
+use Rattle.certificate_check.specs.declared.certificate.Certificate.{Certificate}
+use Rattle.ground_clauses.specs.Cases.{touched_cases}
+use Rattle.ground_clauses.specs.Counting.{case_count}
+use Rattle.ground_clauses.specs.declared.case.Case.{Case}
+use Rattle.rejection_text.specs.Texts.{rejection_text}
+use Rattle.reservation_plan.specs.Derived.{derived_plan}
+use Rattle.reservation_plan.specs.Ends.{IsRejected, IsTooHard, ends}
+use Rattle.spec_model.specs.Fits.{PlanFits}
+use Rattle.spec_model.specs.declared.spec.Spec.{Spec}
+use Rattle.plan_answers.specs.Texts.{most_cases, too_many_text}
+use Rattle.reservation_plan.specs.declared.analysed.Analysed.{Analysed}
+
+-- it has a plan: not too many cases, and none at which the analysis ends
+pub record HasPlan (spec : Spec) : Type 0 where
+  pub few : case_count spec ≤ most_cases
+  pub goes : find (ends spec) (touched_cases spec) ≡ None
+
+-- the derived plan with a certificate that checks
+pub record IsAnalysed (spec : Spec) (analysed : Analysed) : Type 0 where
+  pub has : HasPlan spec
+  pub plan : analysed.plan ≡ derived_plan spec
+  pub fits : PlanFits spec analysed.plan
+  pub checks : Checks spec analysed.plan analysed.certificate
+
+-- and their text
+pub record IsPlanned (spec : Spec) (text : List ℕ) : Type 0 where
+  pub has : HasPlan spec
+  pub certificate : Certificate
+  pub fits : PlanFits spec (derived_plan spec)
+  pub checks : Checks spec (derived_plan spec) certificate
+  pub written : text ≡ certificate_text spec (derived_plan spec) certificate
+
+abbrev pub hard_text : ℕ → List ℕ
+hard_text n = codes "too hard " ++ decimal n ++ codes " variables\n"
+
+-- too many cases, touched or not
+pub record IsTooMany (spec : Spec) (text : List ℕ) : Type 0 where
+  pub many : most_cases < case_count spec
+  pub written : text ≡ too_many_text (case_count spec)
+
+-- the first case at which the analysis ends is a conflict of operations that are declared free
+pub record IsRejection (spec : Spec) (text : List ℕ) : Type 0 where
+  pub few : case_count spec ≤ most_cases
+  pub case : Case
+  pub model : Option (List Bool)
+  pub rejected : IsRejected spec (touched_cases spec) case model
+  pub written : text ≡ rejection_text spec case model
+
+-- or it has a query of too many variables
+pub record IsHard (spec : Spec) (text : List ℕ) : Type 0 where
+  pub few : case_count spec ≤ most_cases
+  pub variables : ℕ
+  pub hard : IsTooHard spec (touched_cases spec) variables
+  pub written : text ≡ hard_text variables
+
+abbrev pub IsAnswer : Spec → ℕ → List ℕ → Type 0
+IsAnswer spec status text =
+    ((status ≡ 0) × IsPlanned spec text)
+    ⊎ ((status ≡ 7) × IsTooMany spec text)
+    ⊎ ((status ≡ 1) × IsRejection spec text)
+    ⊎ ((status ≡ 8) × IsHard spec text)
