@@ -12,7 +12,8 @@ use Rattle.certificate_check.specs.declared.certificate.CertLine.TheVariants.{Re
 use Rattle.certificate_check.specs.declared.draft.Draft.{Draft}
 use Rattle.certificate_check.specs.declared.draft.Stage.{Stage}
 use Rattle.certificate_check.specs.declared.draft.Stage.TheVariants as stages
-use Rattle.certificate_check.proofs.Grown.{IsKept, ShapeAt, cases_push_first, next, open_said, passes_some, said_at}
+use Rattle.certificate_check.proofs.Grown.{next}
+use Rattle.certificate_check.proofs.SaidSoFar.{IsKept, ShapeAt, cases_push_first, open_said, passes_some, said_at}
 use Rattle.certificate_check.proofs.ReadBack.{length_append}
 use Rattle.certificate_check.proofs.Saying.{all_said, cases_said, plan_said, step_line}
 use Rattle.certificate_lines.specs.Texts.{IsSmall, StepSpelt}

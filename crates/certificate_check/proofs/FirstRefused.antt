@@ -9,7 +9,8 @@ use Rattle.certificate_check.specs.declared.certificate.Certificate.{Certificate
 use Rattle.certificate_check.specs.declared.draft.Draft.{Draft}
 use Rattle.certificate_check.specs.declared.reading.Read.{Read}
 use Rattle.certificate_check.proofs.Completed.{IsWithin, completed, completed_limits, continued, nothing_within, within_on}
-use Rattle.certificate_check.proofs.Grown.{IsKept, grown, said}
+use Rattle.certificate_check.proofs.Grown.{grown}
+use Rattle.certificate_check.proofs.SaidSoFar.{IsKept, said}
 use Rattle.certificate_check.proofs.ReadAgain.{lines_said, lines_taken}
 use Rattle.certificate_check.proofs.ReadBack.{nothing_yet}
 use Rattle.certificate_lines.specs.Forms.{line_of}

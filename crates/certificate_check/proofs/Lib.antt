@@ -9,6 +9,7 @@ pub mod Verdicts
 pub mod Walks
 pub mod Reservations
 pub mod Saying
+pub mod SaidSoFar
 pub mod Grown
 pub mod ReadBack
 pub mod Retaken

@@ -12,7 +12,8 @@ use Rattle.certificate_check.specs.declared.certificate.CertLine.{CertLine}
 use Rattle.certificate_check.specs.declared.certificate.CertLine.TheVariants.{Refuted, SepLock, SepPart}
 use Rattle.certificate_check.specs.declared.draft.Draft.{Draft}
 use Rattle.certificate_check.specs.declared.reading.Read.{Read}
-use Rattle.certificate_check.proofs.Grown.{IsKept, end_is, grown, said, said_is}
+use Rattle.certificate_check.proofs.Grown.{grown}
+use Rattle.certificate_check.proofs.SaidSoFar.{IsKept, end_is, said, said_is}
 use Rattle.certificate_check.proofs.Saying.{all_said, all_written, cases_said, form_said, plan_said, step_line, texts_map}
 use Rattle.certificate_lines.specs.Forms.{line_of}
 use Rattle.certificate_lines.specs.Texts.{line_text}
