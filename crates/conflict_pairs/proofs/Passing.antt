@@ -90,6 +90,7 @@ passes_opposing spec all found k left h easy locked = record {
 pub ends_violating : (spec : Spec) (all : List Case) (found : Option ℕ) (k : Case) (left : List Case) (model : List Bool) → IsPassing spec all found (k ∷ left)
     → Violates spec k → IsLeastModel (cnf_of spec k) model → IsViolating spec all k model
 ends_violating spec all found k left model h violates least = record {
+  touched = h.touched.0;
   first = subst (IsFirst (Violates spec) k) (sym h.whole) (first_behind (Violates spec) k h.done (k ∷ left) h.harmless (inl (refl, violates)));
   least = least;
 }

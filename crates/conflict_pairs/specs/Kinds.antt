@@ -6,7 +6,7 @@ use Rattle.conflict_pairs.specs.Decisions.{IsHard}
 use Rattle.conflict_pairs.specs.declared.pair_kind.PairKind.{PairKind}
 use Rattle.conflict_pairs.specs.declared.pair_kind.PairKind.TheVariants.{Violating, Opposing, Free}
 use Rattle.ground_clauses.specs.Cases.{cnf_of, pair_cases}
-use Rattle.ground_clauses.specs.Conflicting.{IsConflicting, Opposes, Violates}
+use Rattle.ground_clauses.specs.Conflicting.{IsConflicting, IsTouchedCase, Opposes, Violates}
 use Rattle.ground_clauses.specs.declared.case.Case.{Case}
 use Rattle.ground_clauses.specs.declared.case.Target.{Target}
 use Rattle.ground_clauses.specs.declared.case.Target.TheVariants.{Clause as of_clause, Locked as of_pred}
@@ -23,6 +23,7 @@ NoneIs P xs = AllByRecursion (λ x. P x → ⊥) xs
 
 -- the first case that has a model, with its least one
 pub record IsViolating (spec : Spec) (cases : List Case) (k : Case) (model : List Bool) : Type 0 where
+  pub touched : IsTouchedCase spec k
   pub first : IsFirst (Violates spec) k cases
   pub least : IsLeastModel (cnf_of spec k) model
 
