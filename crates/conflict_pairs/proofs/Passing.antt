@@ -128,14 +128,6 @@ ends_violating spec all found old k left d model h steps is turn = record {
 all_passed : (all done : List Case) → all ≡ done ++ [] → done ≡ all
 all_passed all done is = sym (is ∙ append-nil done)
 
-pub ends_opposing : (spec : Spec) (all : List Case) (p : ℕ) → IsPassing spec all (Some p) [] → IsOpposing spec all p
-ends_opposing spec all p h = record {
-  harmless = subst (NoneIs (Violates spec)) (all_passed all h.done h.whole) h.harmless;
-  case = h.opposed.0;
-  first = subst (IsFirst (Opposes spec) h.opposed.0) (all_passed all h.done h.whole) h.opposed.1;
-  pred = h.opposed.2;
-}
-
 pub ends_free : (spec : Spec) (all : List Case) → IsPassing spec all None [] → NoneIs (IsConflicting spec) all
 ends_free spec all h =
     subst (NoneIs (IsConflicting spec)) (all_passed all h.done h.whole)
