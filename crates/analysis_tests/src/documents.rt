@@ -4,11 +4,12 @@ ghost use Rattle.std.specs.Prelude.{◌<◌, length, IfOk};
 ghost use Rattle.spec_model.specs.Fits.{IsWellFormed};
 
 use crate::derivations::refutes;
-use crate::samples::is_whole;
-use clause_solver::{Answer, SolveError, solve};
+use clause_solver::SolveError;
+use conflict_pairs::{Decided, decide};
 use ground_clauses::{cases, query};
 use ind_base::List;
 use line_text::ParseError;
+use rejection_text::put_rejection;
 use spec_language::parse_spec;
 use spec_model::Spec;
 use std::alloc::Global;
@@ -59,6 +60,78 @@ pub(crate) const APART: [&str; 5] = [
     "set q(a,b)",
 ];
 
+/// Removes that don't look whether the player is enrolled.
+pub(crate) const BLIND: [&str; 6] = [
+    "sort person 1",
+    "pred enrolled(person) add_wins",
+    "pred player(person) add_wins true",
+    "clause (x:person) enrolled(x) => player(x)",
+    "op remPlayer(p:person)",
+    "clear player(p)",
+];
+
+/// The same, with an interval of a sort that the clause doesn't have.
+pub(crate) const SPAN: [&str; 7] = [
+    "sort person 1",
+    "sort slot 8",
+    "pred enrolled(person) add_wins",
+    "pred player(person) add_wins true",
+    "clause (x:person) enrolled(x) => player(x)",
+    "op remPlayer(i:slot interval,p:person)",
+    "clear player(p)",
+];
+
+/// One of three has to stay.
+pub(crate) const STAY: [&str; 10] = [
+    "pred a() remove_wins true",
+    "pred b() remove_wins true",
+    "pred c() remove_wins true",
+    "clause () => a() or b() or c()",
+    "op ca()",
+    "clear a()",
+    "op cb()",
+    "clear b()",
+    "op cc()",
+    "clear c()",
+];
+
+/// Members come and go by a locked predicate.
+pub(crate) const CLUB: [&str; 9] = [
+    "sort person 2",
+    "pred open() add_wins",
+    "pred member(person) locked",
+    "op join(p:person)",
+    "set member(p)",
+    "op leave(p:person)",
+    "clear member(p)",
+    "op close()",
+    "clear open()",
+];
+
+/// Harmless, with up to seven classes of one sort, whose queries have a variable for each triple.
+pub(crate) const WIDE: [&str; 6] = [
+    "sort s 16",
+    "pred q() add_wins",
+    "pred p(s,s,s) add_wins",
+    "clause (x:s,y:s,z:s) q() and p(x,y,z) =>",
+    "op f(a:s,b:s)",
+    "set q()",
+];
+
+/// The same behind a clause that two of them can make false.
+pub(crate) const LATER: [&str; 10] = [
+    "sort s 16",
+    "pred q() add_wins",
+    "pred p(s,s,s) add_wins",
+    "pred e() add_wins",
+    "pred g() add_wins true",
+    "clause () e() => g()",
+    "clause (x:s,y:s,z:s) q() and p(x,y,z) =>",
+    "op f(a:s,b:s)",
+    "set q()",
+    "clear g()",
+];
+
 /// The specification of these lines, or the first line that is refused.
 pub(crate) fn spec_of(alloc: Global, lines: &[&str]) -> Result<Spec, ParseError>
     ensures { IfOk result (λ s. IsWellFormed s) }
@@ -88,17 +161,44 @@ pub(crate) fn decided(alloc: Global, spec: &Spec, a: u32, b: u32) -> Result<(u64
     let mut refuted = 0u64;
     let mut left = cases(alloc, spec, a, b)?;
     'going: while let Some(case) = left.next() {
-        let cnf = query(alloc, spec, &case)?;
-        if is_whole(&cnf) {
-            match solve(alloc, &cnf)? {
-                Answer::Model(_) => models = models.saturating_add(1),
-                Answer::Refuted(derivation) => {
-                    if refutes(alloc, &cnf, derivation.steps.as_slice())? {
-                        refuted = refuted.saturating_add(1);
-                    }
+        match decide(alloc, spec, &case)? {
+            Decided::Opposes | Decided::Model(_) => models = models.saturating_add(1),
+            Decided::Refuted(derivation) => {
+                let cnf = query(alloc, spec, &case)?;
+                if refutes(alloc, &cnf, derivation.steps.as_slice())? {
+                    refuted = refuted.saturating_add(1);
                 }
             }
         }
     }
     Ok((models, refuted))
+}
+
+/// The text of the first conflicting case of a pair; none, where there is no such case.
+pub(crate) fn rejection_of(
+    alloc: Global,
+    spec: &Spec,
+    a: u32,
+    b: u32,
+) -> Result<List<u8>, SolveError>
+    requires well_formed { IsWellFormed spec.now }
+    requires known_a { a < length spec.now.ops }
+    requires known_b { b < length spec.now.ops }
+{
+    let mut text = List::new(alloc);
+    let mut left = cases(alloc, spec, a, b)?;
+    'looking: while let Some(case) = left.next() {
+        match decide(alloc, spec, &case)? {
+            Decided::Opposes => {
+                put_rejection(alloc, &mut text, spec, &case, None)?;
+                return Ok(text);
+            }
+            Decided::Model(model) => {
+                put_rejection(alloc, &mut text, spec, &case, Some(model.as_slice()))?;
+                return Ok(text);
+            }
+            Decided::Refuted(_) => {}
+        }
+    }
+    Ok(text)
 }

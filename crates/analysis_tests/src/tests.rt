@@ -3,13 +3,52 @@
 ghost use Rattle.ground_clauses.specs.Derivations.{SpeaksOf};
 
 use crate::derivations::refutes;
-use crate::documents::{APART, CHAINS, CUP, ROOMS, decided, spec_of};
+use crate::documents::{
+    APART, BLIND, CHAINS, CLUB, CUP, LATER, ROOMS, SPAN, STAY, WIDE, decided, rejection_of, spec_of,
+};
 use crate::samples::{drawn, is_whole, least_by_trial, pigeonhole};
 use clause_solver::{Answer, SolveError, solve};
+use conflict_pairs::{PairKind, classify};
 use ground_clauses::{Cnf, case_count};
 use ind_base::List;
 use std::alloc::Global;
 use std::test::Fail;
+
+const CUP_TEXT: &str = "rejected free enroll remPlayer
+case clause 0 first 0,0 second 0 vars 0,0
+atom enrolled(0,0) 0 1 0 1
+atom player(0) 1 1 0 0
+atom listed(0) 1 1 1 1
+";
+
+const BLIND_TEXT: &str = "rejected free remPlayer remPlayer
+case clause 0 first 0 second 0 vars 0
+atom enrolled(0) 1 1 1 1
+atom player(0) 1 1 1 0
+";
+
+const SPAN_TEXT: &str = "rejected free remPlayer remPlayer
+case clause 0 first b,0 second b,0 vars 0
+atom enrolled(0) 1 1 1 1
+atom player(0) 1 1 1 0
+";
+
+const ROOMS_TEXT: &str = "rejected free book book
+case clause 0 first 0,b1,0 second 0,b1,1 vars 0,0,0,1
+atom booked(0,0,0) 0 1 0 1
+atom booked(0,0,1) 0 0 1 1
+";
+
+const STAY_TEXT: &str = "rejected free ca cb
+case clause 0 first - second - vars -
+atom a() 1 0 1 0
+atom b() 1 1 0 0
+atom c() 0 0 0 0
+";
+
+const CLUB_TEXT: &str = "rejected free join leave
+case locked member first 0 second 0 vars 0
+";
 
 /// A query of so many variables and no clauses.
 fn unbound(alloc: Global, vars: u32) -> Cnf
@@ -82,6 +121,56 @@ fn enrolling_conflicts_with_taking_off_the_lists(rt: HostRuntime) -> Result<(), 
     for (a, b, conflicts) in [(0, 1, true), (0, 2, true), (0, 0, false), (1, 2, false)] {
         let (models, _) = decided(rt.alloc(), &spec, a, b)?;
         assert!(rt; (models > 0) == conflicts, "{a} and {b}");
+    }
+    Ok(())
+}
+
+#[test]
+fn a_rejection_shows_the_first_conflicting_case(rt: HostRuntime) -> Result<(), Fail> {
+    for (lines, a, b, text) in [
+        (CUP.as_slice(), 0, 1, CUP_TEXT),
+        (CUP.as_slice(), 1, 2, ""),
+        (BLIND.as_slice(), 0, 0, BLIND_TEXT),
+        (SPAN.as_slice(), 0, 0, SPAN_TEXT),
+        (ROOMS.as_slice(), 0, 0, ROOMS_TEXT),
+        (STAY.as_slice(), 0, 1, STAY_TEXT),
+        (CLUB.as_slice(), 0, 1, CLUB_TEXT),
+    ] {
+        let spec = spec_of(rt.alloc(), lines)?;
+        assert!(rt; a < spec.ops.len() && b < spec.ops.len());
+        let found = rejection_of(rt.alloc(), &spec, a as u32, b as u32)?;
+        assert!(rt; found.as_slice() == text.as_bytes(), "{text}");
+    }
+    Ok(())
+}
+
+/// What a pair is, in a word; `hard` with the number of variables.
+fn kind_of(kind: Result<PairKind, SolveError>) -> (&'static str, u32) {
+    match kind {
+        Ok(PairKind::Violating { .. }) => ("violating", 0),
+        Ok(PairKind::Opposing { pred }) => ("opposing", pred),
+        Ok(PairKind::Free) => ("free", 0),
+        Err(SolveError::TooHard { variables }) => ("hard", variables),
+        Err(SolveError::Memory) => ("memory", 0),
+    }
+}
+
+#[test]
+fn pairs_are_classified(rt: HostRuntime) -> Result<(), Fail> {
+    for (lines, a, b, kind, number) in [
+        (CUP.as_slice(), 0, 1, "violating", 0),
+        (CUP.as_slice(), 1, 2, "free", 0),
+        (STAY.as_slice(), 0, 0, "free", 0),
+        (CLUB.as_slice(), 0, 0, "free", 0),
+        (CLUB.as_slice(), 0, 1, "opposing", 1),
+        (CLUB.as_slice(), 1, 2, "free", 0),
+        (WIDE.as_slice(), 0, 0, "hard", 217),
+        (LATER.as_slice(), 0, 0, "violating", 0),
+    ] {
+        let spec = spec_of(rt.alloc(), lines)?;
+        assert!(rt; a <= b && b < spec.ops.len());
+        let found = kind_of(classify(rt.alloc(), &spec, a as u32, b as u32));
+        assert!(rt; found.0 == kind && found.1 == number, "{kind}");
     }
     Ok(())
 }

@@ -3,9 +3,12 @@ use Rattle.std.proofs.Common.{◌≡◌, ◌⊎◌, inl, inr, ℕ, Bool, List, [
 use Rattle.std.specs.Prelude.{Some, None, Option, Err, Result}
 use Rattle.std.specs.List.{AllByRecursion}
 use Rattle.clause_solver.specs.Models.{IsLeastModel}
-use Rattle.conflict_pairs.proofs.Deciding.{IsLocked}
-use Rattle.conflict_pairs.specs.Decisions.{IsHard}
-use Rattle.conflict_pairs.specs.Kinds.{IsFirst, IsOpposing, IsStuck, IsViolating, NoneIs, opposing_after}
+use Rattle.conflict_pairs.proofs.Deciding.{IsLocked, decision_clears, model_violates, opposes_locked}
+use Rattle.conflict_pairs.specs.Decisions.{IsDecision, IsHard}
+use Rattle.conflict_pairs.specs.Kinds.{IsFirst, IsOpposing, IsStuck, IsViolating, NoneIs, opposing_after, turn_of}
+use Rattle.conflict_pairs.specs.declared.decided.Decided.{Decided}
+use Rattle.conflict_pairs.specs.declared.decided.Decided.TheVariants.{Model, Opposes as opposing, Refuted}
+use Rattle.conflict_pairs.specs.declared.pair_kind.Turn.TheVariants.{Ends, Goes}
 use Rattle.ground_clauses.proofs.Lists.{each_append, each_both, each_weaker}
 use Rattle.ground_clauses.specs.Cases.{cnf_of}
 use Rattle.ground_clauses.specs.Conflicting.{IsConflicting, IsTouchedCase, Opposes, Violates}
@@ -85,25 +88,45 @@ passes_opposing spec all found k left h easy locked = record {
     by_found None o = (k, first_behind (Opposes spec) k h.done (k ∷ []) o (inl (refl, locked.opposes)), locked.target_is)
     by_found (Some p) o = (o.0, first_front (Opposes spec) o.0 h.done (k ∷ []) o.1, o.2)
 
+pub passes_on : (spec : Spec) (all : List Case) (found : Option ℕ) (old : List Case) (k : Case) (left : List Case) (d : Decided) (next : Option ℕ) → IsPassing spec all found old → old ≡ k ∷ left
+    → (IsHard spec k → ⊥) → IsDecision spec k d → Goes next ≡ turn_of found k.target d → IsPassing spec all next left
+passes_on spec all found old k left d next h steps easy is turn = by_found d is turn
+  where
+    here : IsPassing spec all found (k ∷ left)
+    here = subst (IsPassing spec all found) steps h
+
+    by_found : (d : Decided) → IsDecision spec k d → Goes next ≡ turn_of found k.target d → IsPassing spec all next left
+    by_found (Model m) is turn = absurd cc
+    by_found (Refuted d) is turn =
+        let same : next ≡ found = cc in
+        subst (λ o. IsPassing spec all o left) (sym same) (passes_harmless spec all found k left here easy ((decision_clears spec k (Refuted d) here.touched.0 is).0 refl))
+    by_found opposing is turn =
+        let same : next ≡ opposing_after found k.target = cc in
+        subst (λ o. IsPassing spec all o left) (sym same) (passes_opposing spec all found k left here easy (opposes_locked spec k here.touched.0 is))
+
 -- ---- the ends
 
-pub ends_violating : (spec : Spec) (all : List Case) (found : Option ℕ) (k : Case) (left : List Case) (model : List Bool) → IsPassing spec all found (k ∷ left)
-    → Violates spec k → IsLeastModel (cnf_of spec k) model → IsViolating spec all k model
-ends_violating spec all found k left model h violates least = record {
-  first = subst (IsFirst (Violates spec) k) (sym h.whole) (first_behind (Violates spec) k h.done (k ∷ left) h.harmless (inl (refl, violates)));
-  least = least;
+pub ends_model : (spec : Spec) (found : Option ℕ) (k : Case) (d : Decided) (model : List Bool) → IsDecision spec k d → Ends model ≡ turn_of found k.target d
+    → Violates spec k × IsLeastModel (cnf_of spec k) model
+ends_model spec found k (Model m) model is turn =
+    let same : model ≡ m = cc in
+    subst (λ w. Violates spec k × IsLeastModel (cnf_of spec k) w) (sym same) (model_violates spec k m is)
+ends_model spec found k (Refuted d) model is turn = absurd cc
+ends_model spec found k opposing model is turn = absurd cc
+
+pub ends_violating : (spec : Spec) (all : List Case) (found : Option ℕ) (old : List Case) (k : Case) (left : List Case) (d : Decided) (model : List Bool) → IsPassing spec all found old → old ≡ k ∷ left
+    → IsDecision spec k d → Ends model ≡ turn_of found k.target d → IsViolating spec all k model
+ends_violating spec all found old k left d model h steps is turn = record {
+  touched = here.touched.0;
+  first = subst (IsFirst (Violates spec) k) (sym here.whole) (first_behind (Violates spec) k here.done (k ∷ left) here.harmless (inl (refl, (ends_model spec found k d model is turn).0)));
+  least = (ends_model spec found k d model is turn).1;
 }
+  where
+    here : IsPassing spec all found (k ∷ left)
+    here = subst (IsPassing spec all found) steps h
 
 all_passed : (all done : List Case) → all ≡ done ++ [] → done ≡ all
 all_passed all done is = sym (is ∙ append-nil done)
-
-pub ends_opposing : (spec : Spec) (all : List Case) (p : ℕ) → IsPassing spec all (Some p) [] → IsOpposing spec all p
-ends_opposing spec all p h = record {
-  harmless = subst (NoneIs (Violates spec)) (all_passed all h.done h.whole) h.harmless;
-  case = h.opposed.0;
-  first = subst (IsFirst (Opposes spec) h.opposed.0) (all_passed all h.done h.whole) h.opposed.1;
-  pred = h.opposed.2;
-}
 
 pub ends_free : (spec : Spec) (all : List Case) → IsPassing spec all None [] → NoneIs (IsConflicting spec) all
 ends_free spec all h =
@@ -129,26 +152,31 @@ none_decides spec done easy harmless =
     neither k n (inl v) = n.0 v
     neither k n (inr o) = n.1 o
 
-pub ends_stuck : (spec : Spec) (all : List Case) (found : Option ℕ) (k : Case) (left : List Case) (n : ℕ) → IsPassing spec all found (k ∷ left)
-    → IsHard spec k → n ≡ (cnf_of spec k).vars → IsStuck spec all n
-ends_stuck spec all found k left n h hard count = record {
+pub ends_stuck : (spec : Spec) (all : List Case) (found : Option ℕ) (old : List Case) (k : Case) (left : List Case) (n : ℕ) → IsPassing spec all found old → old ≡ k ∷ left
+    → IsHard spec k × (n ≡ (cnf_of spec k).vars) → IsStuck spec all n
+ends_stuck spec all found old k left n h steps hard = record {
   case = k;
-  first = subst (IsFirst (Decides spec) k) (sym h.whole) (first_behind (Decides spec) k h.done (k ∷ left) (none_decides spec h.done h.easy h.harmless) (inl (refl, inl hard)));
-  hard = hard;
-  count = count;
+  first = subst (IsFirst (Decides spec) k) (sym here.whole) (first_behind (Decides spec) k here.done (k ∷ left) (none_decides spec here.done here.easy here.harmless) (inl (refl, inl hard.0)));
+  hard = hard.0;
+  count = hard.1;
 }
+  where
+    here : IsPassing spec all found (k ∷ left)
+    here = subst (IsPassing spec all found) steps h
 
-pub violating_easy : (spec : Spec) (all : List Case) (found : Option ℕ) (k : Case) (left : List Case) (n : ℕ) → IsPassing spec all found (k ∷ left)
-    → (IsHard spec k → ⊥) → Violates spec k → IsStuck spec all n → ⊥
-violating_easy spec all found k left n h easy violates stuck =
-    elim (first_left (Decides spec) stuck.case h.done (k ∷ left) (none_decides spec h.done h.easy h.harmless) (subst (IsFirst (Decides spec) stuck.case) h.whole stuck.first)) [
-      | inl here ↦ easy (subst (IsHard spec) here.0 stuck.hard)
-      | inr there ↦ there.0 (inr violates)
+pub violating_easy : (spec : Spec) (all : List Case) (found : Option ℕ) (old : List Case) (k : Case) (left : List Case) (d : Decided) (model : List Bool) (n : ℕ) → IsPassing spec all found old → old ≡ k ∷ left
+    → (IsHard spec k → ⊥) → IsDecision spec k d → Ends model ≡ turn_of found k.target d → IsStuck spec all n → ⊥
+violating_easy spec all found old k left d model n h steps easy is turn stuck =
+    let here : IsPassing spec all found (k ∷ left) = subst (IsPassing spec all found) steps h in
+    elim (first_left (Decides spec) stuck.case here.done (k ∷ left) (none_decides spec here.done here.easy here.harmless) (subst (IsFirst (Decides spec) stuck.case) here.whole stuck.first)) [
+      | inl first ↦ easy (subst (IsHard spec) first.0 stuck.hard)
+      | inr behind ↦ behind.0 (inr (ends_model spec found k d model is turn).0)
     ]
 
-pub passed_easy : (spec : Spec) (all : List Case) (found : Option ℕ) (n : ℕ) → IsPassing spec all found [] → IsStuck spec all n → ⊥
-passed_easy spec all found n h stuck =
-    first_left (Decides spec) stuck.case h.done [] (none_decides spec h.done h.easy h.harmless) (subst (IsFirst (Decides spec) stuck.case) h.whole stuck.first)
+pub passed_easy : (spec : Spec) (all : List Case) (found : Option ℕ) (old : List Case) (n : ℕ) → IsPassing spec all found old → old ≡ [] → IsStuck spec all n → ⊥
+passed_easy spec all found old n h none stuck =
+    let here : IsPassing spec all found [] = subst (IsPassing spec all found) none h in
+    first_left (Decides spec) stuck.case here.done [] (none_decides spec here.done here.easy here.harmless) (subst (IsFirst (Decides spec) stuck.case) here.whole stuck.first)
 
 -- an error that is handed on is the one that came
 pub handed_on : {A B E : Type 0} (r : Result A E) (d : Result B E) (x f n : E) → r ≡ Err x → x ≡ f → d ≡ Err f → r ≡ Err n → d ≡ Err n

@@ -3,10 +3,14 @@ use Rattle.std.specs.Prelude.{◌≡◌, ◌⊎◌, ℕ, Bool, List, [], ◌∷�
 use Rattle.std.specs.List.{AllByRecursion}
 use Rattle.clause_solver.specs.Models.{IsLeastModel}
 use Rattle.conflict_pairs.specs.Decisions.{IsHard}
+use Rattle.conflict_pairs.specs.declared.decided.Decided.{Decided}
+use Rattle.conflict_pairs.specs.declared.decided.Decided.TheVariants.{Model, Opposes as opposing, Refuted}
 use Rattle.conflict_pairs.specs.declared.pair_kind.PairKind.{PairKind}
 use Rattle.conflict_pairs.specs.declared.pair_kind.PairKind.TheVariants.{Violating, Opposing, Free}
+use Rattle.conflict_pairs.specs.declared.pair_kind.Turn.{Turn}
+use Rattle.conflict_pairs.specs.declared.pair_kind.Turn.TheVariants.{Ends, Goes}
 use Rattle.ground_clauses.specs.Cases.{cnf_of, pair_cases}
-use Rattle.ground_clauses.specs.Conflicting.{IsConflicting, Opposes, Violates}
+use Rattle.ground_clauses.specs.Conflicting.{IsConflicting, IsTouchedCase, Opposes, Violates}
 use Rattle.ground_clauses.specs.declared.case.Case.{Case}
 use Rattle.ground_clauses.specs.declared.case.Target.{Target}
 use Rattle.ground_clauses.specs.declared.case.Target.TheVariants.{Clause as of_clause, Locked as of_pred}
@@ -23,6 +27,7 @@ NoneIs P xs = AllByRecursion (λ x. P x → ⊥) xs
 
 -- the first case that has a model, with its least one
 pub record IsViolating (spec : Spec) (cases : List Case) (k : Case) (model : List Bool) : Type 0 where
+  pub touched : IsTouchedCase spec k
   pub first : IsFirst (Violates spec) k cases
   pub least : IsLeastModel (cnf_of spec k) model
 
@@ -54,3 +59,9 @@ abbrev pub opposing_after : Option ℕ → Target → Option ℕ
 opposing_after None (of_pred p) = Some p
 opposing_after None (of_clause t) = None
 opposing_after (Some p) t = Some p
+
+-- what a case with this target says of its pair: it ends with a model, or the next case is looked at
+abbrev pub turn_of : Option ℕ → Target → Decided → Turn
+turn_of found t (Model m) = Ends m
+turn_of found t (Refuted d) = Goes found
+turn_of found t opposing = Goes (opposing_after found t)

@@ -37,6 +37,25 @@ fn opposing_after(found: Option<u32>, target: Target) -> Option<u32>
     }
 }
 
+/// What a case says of its pair: it has this model, or the next case is looked at, and this is the
+/// first predicate that opposed so far.
+#[derive(Drop)]
+enum Turn {
+    Ends(List<bool>),
+    Goes(Option<u32>),
+}
+
+/// What a case with this target says of its pair, by what was found of it.
+fn turn_of(opposing: Option<u32>, target: Target, decided: Decided) -> Turn
+    ensures { result ≡ kinds.turn_of opposing target decided }
+{
+    match decided {
+        Decided::Model(model) => Turn::Ends(model),
+        Decided::Opposes => Turn::Goes(opposing_after(opposing, target)),
+        Decided::Refuted(_) => Turn::Goes(opposing),
+    }
+}
+
 /// What the operations `a` and `b` do to one another. `TooHard` comes exactly where the query of a
 /// case has more than 128 variables and no earlier case in canonical order has a model.
 pub fn classify(alloc: Global, spec: &Spec, a: u32, b: u32) -> Result<PairKind, SolveError>
@@ -50,10 +69,10 @@ pub fn classify(alloc: Global, spec: &Spec, a: u32, b: u32) -> Result<PairKind, 
     let mut opposing = None;
     let mut left = cases(alloc, spec, a, b)?;
     'going: while let Some(case) = left.next() {
-        match decide(alloc, spec, &case)? {
-            Decided::Model(model) => return Ok(PairKind::Violating { case, model }),
-            Decided::Opposes => opposing = opposing_after(opposing, case.target),
-            Decided::Refuted(_) => {}
+        let decided = decide(alloc, spec, &case)?;
+        match turn_of(opposing, case.target, decided) {
+            Turn::Ends(model) => return Ok(PairKind::Violating { case, model }),
+            Turn::Goes(next) => opposing = next,
         }
     }
     match opposing {
