@@ -1,5 +1,5 @@
 -- Cases judged one after the other.
-use Rattle.std.proofs.Common.{◌≡◌, ◌⊎◌, inl, inr, ℕ, Bool, true, false, cond, ◌||◌, ◌&&◌, List, [], ◌∷◌, ◌++◌, map, filter, refl, sym, ap, subst, append_assoc, append-nil, ◌∙◌, arith}
+use Rattle.std.proofs.Common.{◌≡◌, inl, inr, Bool, true, false, cond, ◌||◌, ◌&&◌, List, [], ◌∷◌, ◌++◌, map, filter, refl, sym, ap, subst, append_assoc, append-nil, ◌∙◌, arith}
 use Rattle.std.specs.Prelude.{Option, Some, None}
 use Rattle.std.specs.List.{AllByRecursion, find}
 use Rattle.std.proofs.lemmas.Bool.{cases_Bool}
@@ -10,13 +10,12 @@ use Rattle.ground_clauses.specs.Conflicting.{IsTouchedCase}
 use Rattle.ground_clauses.specs.declared.case.Case.{Case}
 use Rattle.ground_clauses.specs.declared.clauses.Derivation.{Derivation}
 use Rattle.reservation_plan.specs.Conflicts.{is_conflicting}
-use Rattle.reservation_plan.specs.Ends.{IsRejected, IsTooHard, Refuses, ends, is_declared_free, is_hard}
+use Rattle.reservation_plan.specs.Ends.{Refuses, ends, is_declared_free, is_hard}
 use Rattle.reservation_plan.specs.Judging.{AddsConflict, AddsHarmless, Comes, IsFinding, IsJudged, IsRefuted, Judges, JudgesMore, JudgesNone, case_of, judged_as, no_steps}
 use Rattle.reservation_plan.specs.declared.analysed.DeriveError.{DeriveError}
 use Rattle.reservation_plan.specs.declared.analysed.DeriveError.TheVariants.{Memory, Rejected, TooHard, TooManyCases}
 use Rattle.reservation_plan.specs.declared.judging.Finding.{Finding}
 use Rattle.reservation_plan.specs.declared.judging.Finding.TheVariants.{Conflicts, Harmless}
-use Rattle.reservation_plan.specs.declared.judging.Judged.{Judged}
 use Rattle.reservation_plan.specs.declared.judging.Judgements.{Judgements}
 use Rattle.spec_model.specs.declared.spec.Spec.{Spec}
 

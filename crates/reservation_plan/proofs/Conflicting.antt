@@ -1,23 +1,22 @@
 -- What was found of a case, by all truths of its variables.
-use Rattle.std.proofs.Common.{◌≡◌, ◌⊎◌, inl, inr, ℕ, zero, suc, Bool, true, false, cond, ◌||◌, ◌&&◌, List, [], ◌∷◌, ◌++◌, map, length, ◌≤◌, refl, sym, ap, subst, ◌∙◌}
-use Rattle.std.specs.Prelude.{Option, Some, None}
-use Rattle.std.specs.List.{list_any, list_all, AllByRecursion, flat_map}
-use Rattle.std.proofs.lemmas.Bool.{and_from, and_parts, cases_Bool, or_cases, or_left, or_right, true≢false}
+use Rattle.std.proofs.Common.{◌≡◌, inl, inr, suc, Bool, true, false, ◌||◌, List, [], ◌∷◌, ◌++◌, map, length, ◌≤◌, refl, sym, ap, subst, ◌∙◌}
+use Rattle.std.specs.Prelude.{Some}
+use Rattle.std.specs.List.{list_any, list_all, AllByRecursion}
+use Rattle.std.proofs.lemmas.Bool.{and_from, and_parts, cases_Bool, or_left, or_right}
 use Rattle.certificate_check.specs.Checks.{target_refuted}
-use Rattle.clause_solver.specs.Models.{IsLeastModel, IsModel, truth_in}
+use Rattle.clause_solver.specs.Models.{IsModel, truth_in}
 use Rattle.conflict_pairs.specs.Decisions.{IsFound}
 use Rattle.conflict_pairs.specs.declared.decided.Decided.{Decided}
-use Rattle.conflict_pairs.specs.declared.decided.Decided.TheVariants.{Opposes, Model, Refuted}
+use Rattle.conflict_pairs.specs.declared.decided.Decided.TheVariants.{Model, Refuted}
 use Rattle.ground_clauses.proofs.Derives.{no_model}
 use Rattle.ground_clauses.proofs.Hypotheses.{Among, among_append_left, among_append_right, among_map}
-use Rattle.ground_clauses.specs.Cases.{bit_lists, clause_cnf, cnf_of, target_cnf, touched_by}
-use Rattle.ground_clauses.specs.Derivations.{Solves, lit_true, refutes}
+use Rattle.ground_clauses.specs.Cases.{bit_lists, clause_cnf, target_cnf}
+use Rattle.ground_clauses.specs.Derivations.{lit_true, refutes}
 use Rattle.ground_clauses.specs.declared.case.Case.{Case}
 use Rattle.ground_clauses.specs.declared.case.Target.{Target}
 use Rattle.ground_clauses.specs.declared.case.Target.TheVariants.{Clause as of_clause, Locked as of_pred}
 use Rattle.ground_clauses.specs.declared.clauses.Cnf.{Cnf}
 use Rattle.ground_clauses.specs.declared.clauses.Derivation.{Derivation}
-use Rattle.ground_clauses.specs.declared.clauses.Lit.{Lit}
 use Rattle.ground_clauses.specs.declared.clauses.Step.{Step}
 use Rattle.reservation_plan.specs.Conflicts.{conflicts_at, has_model, is_conflicting, is_solution}
 use Rattle.reservation_plan.specs.Ends.{ModelAt}

@@ -1,19 +1,17 @@
 -- The lines of a pair's cases, by their own reservation.
-use Rattle.std.proofs.Common.{◌≡◌, ◌⊎◌, inl, inr, ℕ, zero, suc, ◌+◌, ◌<◌, ◌≤◌, Bool, true, false, cond, ◌&&◌, ◌||◌, not, eqb, List, [], ◌∷◌, ◌++◌, map, length, refl, sym, ap, subst, append-nil, append_assoc, ◌∙◌, arith}
-use Rattle.std.specs.Prelude.{Option, Some, None, is_some}
+use Rattle.std.proofs.Common.{◌≡◌, inl, inr, ℕ, suc, ◌+◌, ◌≤◌, Bool, true, false, cond, ◌&&◌, ◌||◌, not, eqb, List, [], ◌∷◌, ◌++◌, map, length, refl, sym, ap, subst, append-nil, ◌∙◌, arith}
+use Rattle.std.specs.Prelude.{Some, None, is_some}
 use Rattle.std.specs.List.{AllByRecursion, AllZip, find, flat_map, list_all, list_any}
 use Rattle.std.proofs.lemmas.Bool.{and_from, and_parts, cases_Bool, eq-eqb, eqb-true, true≢false}
 use Rattle.std.proofs.lemmas.Grind.{flat_map-append}
 use Rattle.certificate_check.specs.Checks.{FewSteps, is_at, line_fits, lock_of, part_of, target_refuted}
 use Rattle.certificate_check.specs.Separation.{is_separated, lock_fits, lowest_from, pair_meets, part_fits, shares}
-use Rattle.certificate_check.specs.declared.certificate.CertLine.{CertLine}
 use Rattle.certificate_check.specs.declared.certificate.CertLine.TheVariants.{Refuted, SepLock, SepPart}
 use Rattle.ground_clauses.proofs.Hypotheses.{Among, among_filter, each_among}
 use Rattle.ground_clauses.proofs.Lists.{each_append, each_both, each_flat_map, each_map, each_weaker}
 use Rattle.ground_clauses.specs.Cases.{pair_cases}
 use Rattle.ground_clauses.specs.Derivations.{is_nil}
 use Rattle.ground_clauses.specs.declared.case.Case.{Case}
-use Rattle.ground_clauses.specs.declared.clauses.Derivation.{Derivation}
 use Rattle.reservation_plan.proofs.Coming.{find_behind}
 use Rattle.reservation_plan.proofs.Paired.{EachOther, Other, others_around, pairs_others}
 use Rattle.reservation_plan.proofs.Reserved.{IsOf, map_each, own_cases, own_separates}

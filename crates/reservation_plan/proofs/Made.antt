@@ -1,10 +1,10 @@
 -- The derived plan is well formed.
-use Rattle.std.proofs.Common.{◌≡◌, ℕ, zero, suc, ◌+◌, ◌<◌, ◌≤◌, Bool, true, false, cond, ◌&&◌, ◌||◌, not, eqb, List, [], ◌∷◌, ◌++◌, length, get_or, refl, sym, ap, subst, ◌∙◌, arith}
+use Rattle.std.proofs.Common.{◌≡◌, ℕ, zero, suc, ◌<◌, ◌≤◌, Bool, true, false, cond, ◌&&◌, ◌||◌, not, eqb, List, [], ◌∷◌, ◌++◌, length, get_or, refl, sym, subst, ◌∙◌, arith}
 use Rattle.std.specs.Prelude.{Option, Some, None}
-use Rattle.std.specs.List.{AllByRecursion, flat_map, list_all, list_any}
+use Rattle.std.specs.List.{AllByRecursion, flat_map, list_all}
 use Rattle.std.proofs.lemmas.Bool.{and_parts, eq-eqb, eqb-true, true≢false}
 use Rattle.certificate_check.specs.Separation.{lowest, pair_meets, shares}
-use Rattle.ground_clauses.proofs.Lists.{each_append, each_both, each_flat_map, each_weaker}
+use Rattle.ground_clauses.proofs.Lists.{each_append, each_flat_map, each_weaker}
 use Rattle.ground_clauses.specs.Cases.{upto_from}
 use Rattle.ground_clauses.specs.Derivations.{is_nil}
 use Rattle.ground_clauses.specs.declared.case.Case.{Case}
@@ -12,7 +12,7 @@ use Rattle.reservation_plan.proofs.Lined.{IsOn, IsOne, locks_one, locks_own, par
 use Rattle.reservation_plan.proofs.Paired.{EachOther, IsPair, Other, pairs_known, pairs_others}
 use Rattle.reservation_plan.proofs.Reserved.{key_each}
 use Rattle.reservation_plan.specs.Conflicts.{conflicts}
-use Rattle.reservation_plan.specs.Derived.{always_meets, derived_plan, interval_sort, intervals_match, is_partitioned, is_plain, key_at, key_of, locks_at, locks_by, may_meet, pair_of, pairs_of, params_of, parts_at, parts_by, reservation, same_sort, with_first}
+use Rattle.reservation_plan.specs.Derived.{always_meets, derived_plan, interval_sort, intervals_match, is_partitioned, is_plain, key_at, locks_at, locks_by, may_meet, pair_of, pairs_of, params_of, parts_at, parts_by, reservation, same_sort, with_first}
 use Rattle.spec_model.specs.Fits.{EachPairOnce, KeyFits, LockFits, OtherPair, PartFits, PlanFits, RisesAbove, has_interval}
 use Rattle.spec_model.specs.Separated.{interval_place}
 use Rattle.spec_model.specs.Truths.{no_var, sort_of}

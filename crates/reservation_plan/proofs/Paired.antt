@@ -1,11 +1,11 @@
 -- The pairs of operations: each stands once, and their cases in a row are all cases.
-use Rattle.std.proofs.Common.{◌≡◌, ℕ, zero, suc, ◌+◌, ◌-◌, ◌*◌, ◌<◌, ◌≤◌, List, [], ◌∷◌, ◌++◌, map, length, length-append, refl, sym, ap, subst, append_assoc, ◌∙◌, arith}
+use Rattle.std.proofs.Common.{◌≡◌, ℕ, zero, suc, ◌+◌, ◌-◌, ◌*◌, ◌<◌, ◌≤◌, List, [], ◌∷◌, ◌++◌, map, length, length-append, refl, sym, ap, append_assoc, ◌∙◌, arith}
 use Rattle.std.specs.List.{AllByRecursion, flat_map}
 use Rattle.std.proofs.lemmas.Grind.{flat_map-append}
 use Rattle.std.proofs.lemmas.List.{length-map}
 use Rattle.std.proofs.lemmas.List.Folds.{flat_map-map}
 use Rattle.ground_clauses.proofs.Hypotheses.{each_upto}
-use Rattle.ground_clauses.proofs.Lists.{each_append, each_append_left, each_append_right, each_both, each_flat_map, each_map, each_weaker}
+use Rattle.ground_clauses.proofs.Lists.{each_append, each_append_right, each_both, each_flat_map, each_map, each_weaker}
 use Rattle.ground_clauses.specs.Cases.{pair_cases, touched_cases, upto_from}
 use Rattle.reservation_plan.proofs.Partners.{upto_next}
 use Rattle.reservation_plan.specs.Derived.{pair_of, pairs_of, row_pairs}

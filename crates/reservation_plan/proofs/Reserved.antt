@@ -1,13 +1,13 @@
 -- A pair's own reservation separates its conflicting cases.
-use Rattle.std.proofs.Common.{◌≡◌, ◌⊎◌, inl, inr, ℕ, zero, suc, ◌+◌, ◌<◌, ◌≤◌, Bool, true, false, cond, ◌&&◌, not, eqb, List, [], ◌∷◌, ◌++◌, map, filter, length, refl, sym, ap, subst, ◌∙◌, arith}
+use Rattle.std.proofs.Common.{◌≡◌, ◌⊎◌, inl, inr, ℕ, zero, suc, ◌+◌, ◌<◌, Bool, true, false, cond, ◌&&◌, eqb, List, [], ◌∷◌, map, filter, length, refl, sym, ap, subst, ◌∙◌, arith}
 use Rattle.std.specs.Prelude.{Option, Some, None}
 use Rattle.std.specs.List.{All, AllByRecursion, flat_map, list_all, list_any}
-use Rattle.std.proofs.lemmas.Bool.{and_from, and_parts, cases_Bool, eq-eqb, or_left, true≢false}
+use Rattle.std.proofs.lemmas.Bool.{and_from, and_parts, eq-eqb, or_left}
 use Rattle.std.proofs.lemmas.List.Elements.{All-from_recursion}
 use Rattle.certificate_check.specs.Separation.{lock_fits, lowest, lowest_from, pair_meets, part_fits, shares}
 use Rattle.ground_clauses.proofs.Hypotheses.{Among, each_upto}
 use Rattle.ground_clauses.proofs.Known.{pair_known}
-use Rattle.ground_clauses.proofs.Lists.{each_append, each_filter, each_flat_map, each_map, each_weaker}
+use Rattle.ground_clauses.proofs.Lists.{each_filter, each_flat_map, each_map, each_weaker}
 use Rattle.ground_clauses.specs.Cases.{CaseKnown, bit_lists, case_at, class_cases, class_count, class_lists, interval_classes, is_touched_case, pair_cases, pattern_sorts, target_cases, targets, upto_from}
 use Rattle.ground_clauses.specs.Derivations.{is_nil}
 use Rattle.ground_clauses.specs.Listing.{CaseFits}
@@ -20,7 +20,6 @@ use Rattle.reservation_plan.specs.Judging.{case_of}
 use Rattle.reservation_plan.specs.declared.judging.Judged.{Judged}
 use Rattle.spec_model.specs.Fits.{IsWellFormed}
 use Rattle.spec_model.specs.Truths.{op_at, size_of}
-use Rattle.spec_model.specs.declared.plan.LockKind.{LockKind}
 use Rattle.spec_model.specs.declared.plan.Pair.{Pair}
 use Rattle.spec_model.specs.declared.spec.Spec.{Spec}
 

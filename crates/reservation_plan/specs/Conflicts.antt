@@ -1,5 +1,5 @@
 -- Which cases are conflicting.
-use Rattle.std.specs.Prelude.{ℕ, Bool, List, get_or, false, filter}
+use Rattle.std.specs.Prelude.{ℕ, Bool, List, filter}
 use Rattle.std.specs.List.{list_any, list_all}
 use Rattle.ground_clauses.specs.Cases.{bit_lists, clause_cnf, opposes, pair_cases}
 use Rattle.ground_clauses.specs.Derivations.{lit_true}

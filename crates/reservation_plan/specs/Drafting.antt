@@ -1,5 +1,5 @@
 -- A plan and its certificate, as pairs of operations are added.
-use Rattle.std.specs.Prelude.{◌≡◌, ℕ, Bool, true, if◌then◌else◌, List, [], ◌∷◌, ◌++◌, length, map, flat_map, Option, None}
+use Rattle.std.specs.Prelude.{◌≡◌, ℕ, true, if◌then◌else◌, List, [], ◌∷◌, ◌++◌, length, map, flat_map, None}
 use Rattle.std.specs.List.{list_any, find, AllByRecursion, AllZip}
 use Rattle.certificate_check.specs.Checks.{FewSteps, line_fits}
 use Rattle.certificate_check.specs.Separation.{lock_fits, part_fits}

@@ -1,5 +1,5 @@
 -- Where an analysis ends without a plan.
-use Rattle.std.specs.Prelude.{◌≡◌, ℕ, ◌<◌, ◌≤◌, Bool, true, false, ◌&&◌, ◌||◌, eqb, ltb, List, Option, Some, None}
+use Rattle.std.specs.Prelude.{◌≡◌, ℕ, ◌<◌, ◌≤◌, Bool, false, ◌&&◌, ◌||◌, eqb, ltb, List, Option, Some, None}
 use Rattle.std.specs.List.{list_any, find}
 use Rattle.clause_solver.specs.Models.{IsLeastModel}
 use Rattle.ground_clauses.specs.Cases.{clause_cnf, cnf_of, touched_cases}

@@ -1,12 +1,12 @@
 -- Judging the cases of two operations, one after the other.
-use Rattle.std.specs.Prelude.{◌≡◌, ◌⊎◌, ℕ, ◌≤◌, Bool, true, false, List, [], ◌∷◌, ◌++◌, map, filter, length, Option, None}
+use Rattle.std.specs.Prelude.{◌≡◌, ◌⊎◌, ◌≤◌, true, false, List, [], ◌∷◌, ◌++◌, map, filter, length, None}
 use Rattle.std.specs.List.{AllByRecursion, find}
 use Rattle.certificate_check.specs.Checks.{target_refuted}
 use Rattle.ground_clauses.specs.Conflicting.{IsTouchedCase}
 use Rattle.ground_clauses.specs.declared.case.Case.{Case}
 use Rattle.ground_clauses.specs.declared.clauses.Derivation.{Derivation}
 use Rattle.reservation_plan.specs.Conflicts.{is_conflicting}
-use Rattle.reservation_plan.specs.Ends.{ModelAt, ends, is_hard}
+use Rattle.reservation_plan.specs.Ends.{ModelAt, ends}
 use Rattle.reservation_plan.specs.declared.judging.Finding.{Finding}
 use Rattle.reservation_plan.specs.declared.judging.Finding.TheVariants.{Conflicts, Harmless}
 use Rattle.reservation_plan.specs.declared.judging.Judged.{Judged}

@@ -1,6 +1,6 @@
 use Rattle.std.proofs.lemmas.Result.{err_from_is_err_and}
 use Rattle.ground_clauses.specs.Cases.{pair_cases}
-use Rattle.reservation_plan.proofs.Coming.{comes_end, comes_first, comes_on, comes_refused, comes_touched}
+use Rattle.reservation_plan.proofs.Coming.{comes_first, comes_on, comes_refused}
 use Rattle.reservation_plan.proofs.judging.judge_pair.Goals as goal
 
 pub going-init : goal.going-init

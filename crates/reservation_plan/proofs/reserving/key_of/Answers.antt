@@ -1,4 +1,4 @@
-use Rattle.std.proofs.Common.{length, ap, subst, ◌<◌, ◌∙◌}
+use Rattle.std.proofs.Common.{length, subst, ◌<◌, ◌∙◌}
 use Rattle.reservation_plan.specs.Derived.{key_at, params_of}
 use Rattle.reservation_plan.proofs.Partners.{key_next}
 use Rattle.reservation_plan.proofs.reserving.key_of.Goals as goal
