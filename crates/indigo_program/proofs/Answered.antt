@@ -1,7 +1,7 @@
 -- The answers of the program, and why they are complete.
-use Rattle.std.proofs.Common.{◌≡◌, inl, inr, ℕ, ◌+◌, ◌≤◌, List, [], ◌∷◌, ◌++◌, length, take, drop, refl, sym, ap, subst, ◌∙◌, arith}
+use Rattle.std.proofs.Common.{◌≡◌, ◌≢◌, inl, inr, ℕ, ◌+◌, ◌≤◌, List, [], ◌∷◌, ◌++◌, length, take, drop, refl, sym, ap, subst, ◌∙◌, arith}
 use Rattle.std.specs.Prelude.{Option, Some, None, Result, Ok, Err, IsErrOf, codes}
-use Rattle.std.specs.Io.KnownBytes.{Appends, Consumes, IsAtEnd}
+use Rattle.std.specs.Io.KnownBytes.{Appends, Consumes, IsAtEnd, Keeps}
 use Rattle.std.proofs.lemmas.List.{append-nil, take-append-drop, length-append}
 use Rattle.ind_io.specs.Streams.{ConsumesJust}
 use Rattle.line_text.specs.declared.cause.Cause.{Cause}
@@ -14,12 +14,37 @@ use Rattle.scenario_text.specs.Groups.{unbuilt_words, first_line}
 use Rattle.scenario_text.specs.Reading.{document_of}
 use Rattle.indigo_program.specs.declared.command.Command.{Command}
 use Rattle.indigo_program.specs.declared.command.Command.TheVariants as commands
-use Rattle.indigo_program.specs.Headline.{Stream, Failed, WasRead, IsNamed, IsReply, IsAnswerTo, IsAnswered, IsComplete, IsOwed, IsOwedBy, Makes, input_limit}
-use Rattle.indigo_program.specs.Inputs.{IsOfClients, Refuses, Takes}
+use Rattle.indigo_program.specs.Headline.{Stream, Failed, WasRead, IsNamed, IsReply, IsAnswerTo, IsAnswered, IsComplete, IsOwed, IsOwedBy, Makes, Succeeds, input_limit}
+use Rattle.indigo_program.specs.Inputs.{IsInputOf, IsOfClients, Refuses, document_before}
+use Rattle.std.specs.List.{find}
+use Rattle.spec_model.specs.declared.plan.Plan.{Plan}
+use Rattle.spec_model.specs.declared.spec.Spec.{Spec}
+use Rattle.ground_clauses.specs.Cases.{touched_cases}
+use Rattle.ground_clauses.specs.declared.case.Case.{Case}
+use Rattle.certificate_check.specs.Checks.{Checks, verdict_of}
+use Rattle.certificate_check.specs.Reading.{read_of}
+use Rattle.certificate_check.specs.declared.certificate.Certificate.{Certificate}
+use Rattle.certificate_check.specs.declared.reading.Read.{Read}
+use Rattle.certificate_check.specs.declared.reading.Read.TheVariants as reads
+use Rattle.certificate_check.specs.declared.verdict.Verdict.{Verdict}
+use Rattle.certificate_check.specs.declared.verdict.Verdict.TheVariants as verdicts
+use Rattle.certificate_check.specs.declared.verdict.Why.{Why}
+use Rattle.certificate_check.proofs.Verdicts.{yes_checks}
+use Rattle.reservation_plan.specs.Ends.{ends}
+use Rattle.plan_answers.specs.Analysing as analyses
+use Rattle.plan_answers.specs.Analysing.{HasPlan}
+use Rattle.plan_answers.specs.Checking as checks
+use Rattle.plan_answers.specs.Checking.{HasYes}
+use Rattle.plan_answers.specs.Splitting.{document_lines, plan_lines}
 use Rattle.indigo_program.specs.Finishing.{Finishes}
 
 pub err_is : {T E : Type 0} (x e : E) → x ≡ e → IsErrOf {T = T} {E = E} (Err x) e
 err_is {T} {E} x e is = ap (λ (y : E). let r : Result T E = Err y in r) is
+
+-- where nothing was taken all is as before
+pub keeps_all : (a : Option (List ℕ)) → Keeps a a
+keeps_all None = tt
+keeps_all (Some xs) = refl
 
 -- a reply that is written whole, or cut off
 pub finished : (words : List (List ℕ)) (source sink : Stream) (status result : ℕ) (text put : List ℕ) → IsReply words source status text → put ≡ text
@@ -48,12 +73,33 @@ pub reply_read : (words : List (List ℕ)) (command : Command) (source : Stream)
 reply_read words command source bytes given text status named all end short is answer =
     inr (command, named, inr (inr (record { bytes = bytes; all = all; end = end; short = short; holds = subst (λ (b : List ℕ). IsAnswerTo command b status text) is answer })))
 
+-- the first letter
+abbrev letter : List (List ℕ) → ℕ
+letter [] = 0
+letter ([] ∷ words) = 0
+letter ((b ∷ bs) ∷ words) = b
+
+letters_differ : {A : Type 0} (a b : ℕ) → a ≡ b → a ≢ b → A
+letters_differ a b same other = absurd (other same)
+
 -- the words name one command at most
 one_command : (words : List (List ℕ)) (a b : Command) → IsNamed words a → IsNamed words b → a ≡ b
 one_command words commands.Simulate commands.Simulate h k = refl
+one_command words commands.Analyse commands.Analyse h k = refl
+one_command words commands.Check commands.Check h k = refl
 one_command words commands.Print commands.Print h k = refl
-one_command words commands.Simulate commands.Print h k = absurd (let both = sym h ∙ k in cc)
-one_command words commands.Print commands.Simulate h k = absurd (let both = sym h ∙ k in cc)
+one_command words commands.Simulate commands.Analyse h k = letters_differ 115 97 (ap letter (sym h ∙ k)) (omega arith)
+one_command words commands.Simulate commands.Check h k = letters_differ 115 99 (ap letter (sym h ∙ k)) (omega arith)
+one_command words commands.Simulate commands.Print h k = letters_differ 115 112 (ap letter (sym h ∙ k)) (omega arith)
+one_command words commands.Analyse commands.Simulate h k = letters_differ 97 115 (ap letter (sym h ∙ k)) (omega arith)
+one_command words commands.Analyse commands.Check h k = letters_differ 97 99 (ap letter (sym h ∙ k)) (omega arith)
+one_command words commands.Analyse commands.Print h k = letters_differ 97 112 (ap letter (sym h ∙ k)) (omega arith)
+one_command words commands.Check commands.Simulate h k = letters_differ 99 115 (ap letter (sym h ∙ k)) (omega arith)
+one_command words commands.Check commands.Analyse h k = letters_differ 99 97 (ap letter (sym h ∙ k)) (omega arith)
+one_command words commands.Check commands.Print h k = letters_differ 99 112 (ap letter (sym h ∙ k)) (omega arith)
+one_command words commands.Print commands.Simulate h k = letters_differ 112 115 (ap letter (sym h ∙ k)) (omega arith)
+one_command words commands.Print commands.Analyse h k = letters_differ 112 97 (ap letter (sym h ∙ k)) (omega arith)
+one_command words commands.Print commands.Check h k = letters_differ 112 99 (ap letter (sym h ∙ k)) (omega arith)
 
 -- ---- completeness
 
@@ -92,27 +138,105 @@ no_clients (works.Clients turns homes asks) orders is clients = absurd cc
 both_first : (first : Option ℕ) (line : ℕ) → first ≡ Some line → first ≡ None → ⊥
 both_first first line some none = absurd (let both = sym some ∙ none in cc)
 
--- a command takes no input of which it refuses a line
-taken_whole : (command : Command) (bytes : List ℕ) (line : ℕ) (cause : Cause) → Refuses command bytes line cause → Takes command bytes → ⊥
-taken_whole commands.Simulate bytes line cause (inl bad) (d, orders, run) = both_read (document_of bytes) d (line, cause) run.read bad
-taken_whole commands.Simulate bytes line cause (inr (inl out)) (d, orders, run) =
+-- a command isn't for an input of which it refuses a line
+input_whole : (command : Command) (bytes : List ℕ) (line : ℕ) (cause : Cause) → Refuses command bytes line cause → IsInputOf command bytes → ⊥
+input_whole commands.Simulate bytes line cause (inl bad) (d, orders, run) = both_read (document_of bytes) d (line, cause) run.read bad
+input_whole commands.Simulate bytes line cause (inr (inl out)) (d, orders, run) =
     no_clients out.document.work orders (ap (λ (x : Document). x.work) (one_document (document_of bytes) out.document d out.read run.read) ∙ run.schedule) out.clients
-taken_whole commands.Simulate bytes line cause (inr (inr word)) (d, orders, run) = both_first (first_line unbuilt_words (lines_of bytes)) line word.first run.built
-taken_whole commands.Print bytes line cause bad (d, read) = both_read (document_of bytes) d (line, cause) read bad
+input_whole commands.Simulate bytes line cause (inr (inr word)) (d, orders, run) = both_first (first_line unbuilt_words (lines_of bytes)) line word.first run.built
+input_whole commands.Analyse bytes line cause bad (d, read) = both_read (document_of bytes) d (line, cause) read bad
+input_whole commands.Check bytes line cause bad (d, read) = both_read (document_before bytes) d (line, cause) read bad
+input_whole commands.Print bytes line cause bad (d, read) = both_read (document_of bytes) d (line, cause) read bad
 
-makes_taken : (command : Command) (bytes text : List ℕ) → Makes command bytes text → Takes command bytes
-makes_taken commands.Simulate bytes text trace = (trace.document, trace.orders, trace.taken)
-makes_taken commands.Print bytes text printed = (printed.document, printed.read)
+-- it succeeds for inputs that it is for
+success_input : (command : Command) (bytes : List ℕ) → Succeeds command bytes → IsInputOf command bytes
+success_input commands.Simulate bytes h = h
+success_input commands.Analyse bytes (d, read, plan) = (d, read)
+success_input commands.Check bytes (d, read, checked) = (d, read)
+success_input commands.Print bytes h = h
+
+makes_input : (command : Command) (bytes text : List ℕ) (status : ℕ) → Makes command bytes status text → IsInputOf command bytes
+makes_input commands.Simulate bytes text status (is, trace) = (trace.document, trace.orders, trace.taken)
+makes_input commands.Analyse bytes text status made = (made.document, made.read)
+makes_input commands.Check bytes text status made = (made.document, made.read)
+makes_input commands.Print bytes text status (is, printed) = (printed.document, printed.read)
+
+-- ---- which status is owed
+
+-- the status is 0 just where this holds
+record IsZeroWhere (P : Type 0) (status : ℕ) : Type 0 where
+  zero_if : P → status ≡ 0
+  only_if : status ≡ 0 → P
+
+not_zero : (P : Type 0) (status : ℕ) → (P → ⊥) → (status ≡ 0 → ⊥) → IsZeroWhere P status
+not_zero P status never other = record { zero_if = λ p. absurd (never p); only_if = λ is. absurd (other is) }
+
+is_zero : (P : Type 0) (status : ℕ) → P → status ≡ 0 → IsZeroWhere P status
+is_zero P status p is = record { zero_if = λ _. is; only_if = λ _. p }
+
+both_found : (found : Option Case) (k : Case) → found ≡ Some k → found ≡ None → ⊥
+both_found found k some none = absurd (let both = sym some ∙ none in cc)
+
+analysis_zero : (spec : Spec) (status : ℕ) (text : List ℕ) → analyses.IsAnswer spec status text → IsZeroWhere (HasPlan spec) status
+analysis_zero spec status text (inl (is, planned)) = is_zero (HasPlan spec) status planned.has is
+analysis_zero spec status text (inr (inl (is, many))) = not_zero (HasPlan spec) status (λ h. absurd (omega (arith, h.few, many.many))) (λ zero. absurd (omega (arith, is, zero)))
+analysis_zero spec status text (inr (inr (inl (is, rejection)))) =
+    not_zero (HasPlan spec) status (λ h. both_found (find (ends spec) (touched_cases spec)) rejection.case rejection.rejected.first h.goes) (λ zero. absurd (omega (arith, is, zero)))
+analysis_zero spec status text (inr (inr (inr (is, hard)))) =
+    not_zero (HasPlan spec) status (λ h. both_found (find (ends spec) (touched_cases spec)) hard.hard.case hard.hard.first h.goes) (λ zero. absurd (omega (arith, is, zero)))
+
+same_parts : (r : Read) (plan given : Plan) (certificate other : Certificate) → r ≡ reads.Parts plan certificate → r ≡ reads.Parts given other → (plan ≡ given) × (certificate ≡ other)
+same_parts r plan given certificate other first second = let both = sym first ∙ second in (cc, cc)
+
+both_verdicts : (v : Verdict) (case : ℕ) (why : Why) → v ≡ verdicts.Yes → v ≡ verdicts.No case why → ⊥
+both_verdicts v case why good bad = absurd (let both = sym good ∙ bad in cc)
+
+both_kinds : (r : Read) (plan : Plan) (certificate : Certificate) (line : ℕ) → r ≡ reads.Parts plan certificate → r ≡ reads.Refused line → ⊥
+both_kinds r plan certificate line parts bad = absurd (let both = sym parts ∙ bad in cc)
+
+check_zero : (spec : Spec) (before : ℕ) (lines : List (List ℕ)) (status : ℕ) (text : List ℕ) → checks.IsAnswer spec before lines status text → IsZeroWhere (HasYes spec lines) status
+check_zero spec before lines status text (inl (is, many, written)) = not_zero (HasYes spec lines) status (λ h. absurd (omega (arith, h.few, many))) (λ zero. absurd (omega (arith, is, zero)))
+check_zero spec before lines status text (inr (few, inl (plan, certificate, read, inl good))) =
+    is_zero (HasYes spec lines) status (record { few = few; plan = plan; certificate = certificate; read = read; checks = good.checks }) good.status_is
+check_zero spec before lines status text (inr (few, inl (plan, certificate, read, inr (case, why, verdict, refusal)))) =
+    not_zero (HasYes spec lines) status
+    (λ h.
+    let same = same_parts (read_of spec lines) h.plan plan h.certificate certificate h.read read in
+    let checks_here : Checks spec plan certificate = subst (λ c. Checks spec plan c) same.1 (subst (λ p. Checks spec p h.certificate) same.0 h.checks) in
+    both_verdicts (verdict_of spec plan certificate) case why ((yes_checks spec plan certificate).1 checks_here) verdict)
+    (λ zero. absurd (omega (arith, refusal.status_is, zero)))
+check_zero spec before lines status text (inr (few, inr (line, read, refusal))) =
+    not_zero (HasYes spec lines) status (λ h. both_kinds (read_of spec lines) h.plan h.certificate line h.read read) (λ zero. absurd (omega (arith, refusal.status_is, zero)))
+
+makes_zero : (command : Command) (bytes text : List ℕ) (status : ℕ) → Makes command bytes status text → IsZeroWhere (Succeeds command bytes) status
+makes_zero commands.Simulate bytes text status (is, trace) = is_zero (Succeeds commands.Simulate bytes) status (trace.document, trace.orders, trace.taken) is
+makes_zero commands.Analyse bytes text status made =
+    let h = analysis_zero made.document.spec status text made.answer in
+    record {
+      zero_if = λ (d, read, plan). h.zero_if (subst (λ (x : Document). HasPlan x.spec) (one_document (document_of bytes) d made.document read made.read) plan);
+      only_if = λ is. (made.document, made.read, h.only_if is);
+    }
+makes_zero commands.Check bytes text status made =
+    let h = check_zero made.document.spec (length (document_lines (lines_of bytes))) (plan_lines (lines_of bytes)) status text made.answer in
+    record {
+      zero_if = λ (d, read, good). h.zero_if (subst (λ (x : Document). HasYes x.spec (plan_lines (lines_of bytes))) (one_document (document_before bytes) d made.document read made.read) good);
+      only_if = λ is. (made.document, made.read, h.only_if is);
+    }
+makes_zero commands.Print bytes text status (is, printed) = is_zero (Succeeds commands.Print bytes) status (printed.document, printed.read) is
 
 owed_answer : (command : Command) (bytes text : List ℕ) (status : ℕ) → IsAnswerTo command bytes status text → IsOwedBy command bytes status
 owed_answer command bytes text status (inl (is, refused)) = record {
-  taken = λ takes. absurd (taken_whole command bytes refused.line refused.cause refused.refused takes);
-  other = λ no. inl is;
+  other = λ no_input. inl is;
+  succeeds = λ h. absurd (input_whole command bytes refused.line refused.cause refused.refused (success_input command bytes h));
+  fails = λ no_success zero. absurd (omega (arith, is, zero));
 }
-owed_answer command bytes text status (inr (is, made)) = record {
-  taken = λ takes. inl is;
-  other = λ no. absurd (no (makes_taken command bytes text made));
-}
+owed_answer command bytes text status (inr made) =
+    let h = makes_zero command bytes text status made in
+    record {
+      other = λ no_input. absurd (no_input (makes_input command bytes text status made));
+      succeeds = λ success. inl (h.zero_if success);
+      fails = λ no_success zero. no_success (h.only_if zero);
+    }
 
 owed_reply : (words : List (List ℕ)) (source : Stream) (told text : List ℕ) (status : ℕ) → source.before ≡ Some told → (Failed source → ⊥) → IsReply words source status text → IsOwed words told status
 owed_reply words source told text status is whole (inl bad) = record {
@@ -142,11 +266,13 @@ complete words source sink status (inr (inl cut)) = λ told is whole out. absurd
 complete words source sink status (inr (inr memory)) = λ told is whole out. record {
   other_words = λ other. absurd (other memory.1.0 memory.1.1);
   long = λ command named more. inr memory.0;
-  short = λ command named within. record { taken = λ takes. inr memory.0; other = λ no. inr memory.0 };
+  short = λ command named within. record { other = λ no_input. inr memory.0; succeeds = λ success. inr memory.0; fails = λ no_success zero. absurd (omega (arith, memory.0, zero)) };
 }
 
 -- ---- words
 
-pub no_command : (words : List (List ℕ)) → (words ≡ codes "simulate" ∷ [] → ⊥) → (words ≡ codes "print" ∷ [] → ⊥) → (command : Command) → IsNamed words command → ⊥
-no_command words simulate print commands.Simulate named = simulate named
-no_command words simulate print commands.Print named = print named
+pub no_command : (words : List (List ℕ)) → (words ≡ codes "simulate" ∷ [] → ⊥) → (words ≡ codes "analyse" ∷ [] → ⊥) → (words ≡ codes "check" ∷ [] → ⊥) → (words ≡ codes "print" ∷ [] → ⊥) → (command : Command) → IsNamed words command → ⊥
+no_command words simulate analyse check print commands.Simulate named = simulate named
+no_command words simulate analyse check print commands.Analyse named = analyse named
+no_command words simulate analyse check print commands.Check named = check named
+no_command words simulate analyse check print commands.Print named = print named

@@ -1,5 +1,5 @@
 -- Documents that are run or refused.
-use Rattle.std.proofs.Common.{◌≡◌, inl, ℕ, zero, suc, List, [], ◌∷◌, refl}
+use Rattle.std.proofs.Common.{◌≡◌, inl, inr, ℕ, zero, suc, List, [], ◌∷◌, length, refl, sym, ap, subst, ◌∙◌}
 use Rattle.std.specs.Prelude.{None, Result, Ok, Err, IfOk, slice_get}
 use Rattle.std.specs.List.{AllByRecursion}
 use Rattle.std.specs.Option.{option_map_or}
@@ -8,8 +8,13 @@ use Rattle.line_text.specs.declared.cause.Cause.{Cause}
 use Rattle.replica_core.specs.Tables.{HasNoUpper}
 use Rattle.scenario_text.specs.declared.document.Document.{Document}
 use Rattle.scenario_text.specs.Built.{IsBuilt}
+use Rattle.line_text.specs.Lines.{lines_of}
+use Rattle.scenario_text.specs.Reading.{document_of, document_of_draft, draft_of}
+use Rattle.plan_answers.specs.Checking as checks
+use Rattle.plan_answers.specs.Splitting.{document_lines, plan_lines}
 use Rattle.indigo_program.specs.declared.command.Command.{Command}
-use Rattle.indigo_program.specs.declared.reply.Reply.{Reply}
+use Rattle.indigo_program.specs.declared.command.Command.TheVariants as commands
+use Rattle.plan_answers.specs.declared.answer.Answer.{Answer}
 use Rattle.indigo_program.specs.CauseTexts.{refusal_text}
 use Rattle.indigo_program.specs.Headline.{IsAnswerTo}
 use Rattle.indigo_program.specs.Inputs.{Refuses}
@@ -24,7 +29,18 @@ pub no_upper : (d : Document) → IsBuilt d → HasNoUpper d.spec
 no_upper d built = λ cell. no_most d.spec.nums cell.num built.nums
 
 -- the reply that refuses a line is an answer
-pub refused_answer : {E : Type 0} (command : Command) (bytes : List ℕ) (line : ℕ) (cause : Cause) (result : Result Reply E) → Refuses command bytes line cause
+pub refused_answer : {E : Type 0} (command : Command) (bytes : List ℕ) (line : ℕ) (cause : Cause) (result : Result Answer E) → Refuses command bytes line cause
     → IfOk result (λ reply. (reply.status ≡ 3) × (reply.text ≡ refusal_text line cause)) → IfOk result (λ reply. IsAnswerTo command bytes reply.status reply.text)
 refused_answer command bytes line cause (Ok reply) refused is = inl (is.0, record { line = line; cause = cause; refused = refused; written = is.1 })
 refused_answer command bytes line cause (Err e) refused is = tt
+
+-- the verdict on what stands behind the document is an answer
+pub checked_answer : {E : Type 0} (bytes front plan : List ℕ) (d : Document) (before : ℕ) (result : Result Answer E) → lines_of front ≡ document_lines (lines_of bytes) → lines_of plan ≡ plan_lines (lines_of bytes) → document_of front ≡ Ok d → before ≡ length (lines_of front)
+    → IfOk result (λ reply. checks.IsAnswer d.spec before (lines_of plan) reply.status reply.text) → IfOk result (λ reply. IsAnswerTo commands.Check bytes reply.status reply.text)
+checked_answer bytes front plan d before (Ok reply) is_front is_plan read count is =
+    inr (record {
+      document = d;
+      read = ap (λ lines. document_of_draft (draft_of lines)) (sym is_front) ∙ read;
+      answer = subst (λ n. checks.IsAnswer d.spec n (plan_lines (lines_of bytes)) reply.status reply.text) (count ∙ ap length is_front) (subst (λ lines. checks.IsAnswer d.spec before lines reply.status reply.text) is_plan is);
+    })
+checked_answer bytes front plan d before (Err e) is_front is_plan read count is = tt

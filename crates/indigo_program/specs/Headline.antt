@@ -3,7 +3,7 @@ use Rattle.std.specs.Prelude.{◌≡◌, ◌⊎◌, ℕ, ◌+◌, ◌≤◌, ◌
 use Rattle.std.specs.declared.option.Option.{Option}
 use Rattle.std.specs.Io.KnownBytes.{Appends, Consumes, IsAtEnd, Keeps}
 use Rattle.ind_io.specs.Causes.{Rose}
-use Rattle.ind_io.specs.Streams.{ConsumesJust}
+use Rattle.ind_io.specs.Streams.{ConsumesJust, ConsumesWithin}
 use Rattle.spec_model.specs.declared.plan.Plan.{Plan}
 use Rattle.spec_model.specs.declared.plan.Setup.{Setup}
 use Rattle.run_model.specs.declared.step.Order.{Order}
@@ -14,12 +14,18 @@ use Rattle.run_model.specs.Balance.{AtEachStep, IsSound}
 use Rattle.run_model.specs.Trace.{trace_text}
 use Rattle.line_text.specs.declared.cause.Cause.{Cause}
 use Rattle.scenario_text.specs.declared.document.Document.{Document}
-use Rattle.scenario_text.specs.Reading.{document_of}
+use Rattle.scenario_text.specs.Reading.{IsDocument, document_of}
 use Rattle.scenario_text.specs.Saying.{document_text}
 use Rattle.indigo_program.specs.declared.command.Command.{Command}
 use Rattle.indigo_program.specs.declared.command.Command.TheVariants as commands
 use Rattle.indigo_program.specs.CauseTexts.{refusal_text}
-use Rattle.indigo_program.specs.Inputs.{IsRunnable, Takes, Refuses}
+use Rattle.line_text.specs.Lines.{lines_of}
+use Rattle.plan_answers.specs.Analysing as analyses
+use Rattle.plan_answers.specs.Analysing.{HasPlan}
+use Rattle.plan_answers.specs.Checking as checks
+use Rattle.plan_answers.specs.Checking.{HasYes}
+use Rattle.plan_answers.specs.Splitting.{document_lines, plan_lines}
+use Rattle.indigo_program.specs.Inputs.{IsInputOf, IsRunnable, Refuses, document_before}
 
 -- a plan without reservations
 abbrev pub no_plan : Plan
@@ -50,10 +56,24 @@ pub record IsPrinted (bytes text : List ℕ) : Type 0 where
   pub read : document_of bytes ≡ Ok document
   pub written : text ≡ document_text document
 
--- what a command makes of an input that it takes
-abbrev pub Makes : Command → List ℕ → List ℕ → Type 0
-Makes commands.Simulate bytes text = IsTrace bytes text
-Makes commands.Print bytes text = IsPrinted bytes text
+-- the bytes are a document, and this is the analysis of its specification
+pub record IsAnalysed (bytes : List ℕ) (status : ℕ) (text : List ℕ) : Type 0 where
+  pub document : Document
+  pub read : document_of bytes ≡ Ok document
+  pub answer : analyses.IsAnswer document.spec status text
+
+-- the bytes are a document and a plan behind it, and this is the verdict on that
+pub record IsChecked (bytes : List ℕ) (status : ℕ) (text : List ℕ) : Type 0 where
+  pub document : Document
+  pub read : document_before bytes ≡ Ok document
+  pub answer : checks.IsAnswer document.spec (length (document_lines (lines_of bytes))) (plan_lines (lines_of bytes)) status text
+
+-- what a command makes of an input that it is for
+abbrev pub Makes : Command → List ℕ → ℕ → List ℕ → Type 0
+Makes commands.Simulate bytes status text = (status ≡ 0) × IsTrace bytes text
+Makes commands.Analyse bytes status text = IsAnalysed bytes status text
+Makes commands.Check bytes status text = IsChecked bytes status text
+Makes commands.Print bytes status text = (status ≡ 0) × IsPrinted bytes text
 
 -- the text names the line that the command refuses, and why
 pub record IsRefused (command : Command) (bytes text : List ℕ) : Type 0 where
@@ -88,23 +108,25 @@ pub record WasRead (source : Stream) (P : List ℕ → Type 0) : Type 0 where
 -- the words of each command
 abbrev pub IsNamed : List (List ℕ) → Command → Type 0
 IsNamed words commands.Simulate = words ≡ codes "simulate" ∷ []
+IsNamed words commands.Analyse = words ≡ codes "analyse" ∷ []
+IsNamed words commands.Check = words ≡ codes "check" ∷ []
 IsNamed words commands.Print = words ≡ codes "print" ∷ []
 
 -- the status and the text that a command has for an input
 abbrev pub IsAnswerTo : Command → List ℕ → ℕ → List ℕ → Type 0
-IsAnswerTo command bytes status text = ((status ≡ 3) × IsRefused command bytes text) ⊎ ((status ≡ 0) × Makes command bytes text)
+IsAnswerTo command bytes status text = ((status ≡ 3) × IsRefused command bytes text) ⊎ Makes command bytes status text
 
--- the status and the text for an input that came: it failed, was too long, or was read
+-- the status and the text for an input that came: it failed within the limit, was too long, or was read
 abbrev pub IsReplyOf : Command → Stream → ℕ → List ℕ → Type 0
 IsReplyOf command source status text =
-    ((status ≡ 4) × (text ≡ codes "read fault\n") × Failed source)
+    ((status ≡ 4) × (text ≡ codes "read fault\n") × Failed source × ConsumesWithin source.before source.after input_limit)
     ⊎ ((status ≡ 6) × (text ≡ codes "input too long\n") × ConsumesJust source.before source.after (input_limit + 1))
     ⊎ WasRead source (λ bytes. IsAnswerTo command bytes status text)
 
--- the status and the text for words and an input
+-- the status and the text for words and an input; for other words nothing is read
 abbrev pub IsReply : List (List ℕ) → Stream → ℕ → List ℕ → Type 0
 IsReply words source status text =
-    ((status ≡ 2) × (text ≡ codes "bad words\n") × ((command : Command) → IsNamed words command → ⊥))
+    ((status ≡ 2) × (text ≡ codes "bad words\n") × ((command : Command) → IsNamed words command → ⊥) × Keeps source.before source.after)
     ⊎ ((command : Command) × IsNamed words command × IsReplyOf command source status text)
 
 -- the whole text is out
@@ -129,12 +151,20 @@ abbrev pub IsAnswered : List (List ℕ) → Stream → Stream → ℕ → Type 0
 IsAnswered words source sink status =
     IsWritten words source sink status
     ⊎ ((status ≡ 5) × IsCutOff words source sink)
-    ⊎ ((status ≡ 9) × ((command : Command) × IsNamed words command) × Keeps sink.before sink.after)
+    ⊎ ((status ≡ 9) × ((command : Command) × IsNamed words command) × ConsumesWithin source.before source.after (input_limit + 1) × Keeps sink.before sink.after)
 
--- what is owed to an input: 0 where the command takes it, else 3, or want of memory
+-- the inputs for which a command succeeds: a schedule that is run, a specification that has a plan, a plan with a certificate that checks, a document
+abbrev pub Succeeds : Command → List ℕ → Type 0
+Succeeds commands.Simulate bytes = IsInputOf commands.Simulate bytes
+Succeeds commands.Analyse bytes = (document : Document) × (document_of bytes ≡ Ok document) × HasPlan document.spec
+Succeeds commands.Check bytes = (document : Document) × (document_before bytes ≡ Ok document) × HasYes document.spec (plan_lines (lines_of bytes))
+Succeeds commands.Print bytes = IsDocument bytes
+
+-- what is owed to an input, where memory isn't wanting: 3 where the command isn't for it, and 0 exactly where it succeeds
 pub record IsOwedBy (command : Command) (bytes : List ℕ) (status : ℕ) : Type 0 where
-  pub taken : Takes command bytes → (status ≡ 0) ⊎ (status ≡ 9)
-  pub other : (Takes command bytes → ⊥) → (status ≡ 3) ⊎ (status ≡ 9)
+  pub other : (IsInputOf command bytes → ⊥) → (status ≡ 3) ⊎ (status ≡ 9)
+  pub succeeds : Succeeds command bytes → (status ≡ 0) ⊎ (status ≡ 9)
+  pub fails : (Succeeds command bytes → ⊥) → status ≡ 0 → ⊥
 
 -- the answer that is owed to an input that the source tells, where nothing fails: by its words, its length and its lines
 pub record IsOwed (words : List (List ℕ)) (bytes : List ℕ) (status : ℕ) : Type 0 where

@@ -1,5 +1,5 @@
 -- Which inputs each command takes, and which line of the others it refuses.
-use Rattle.std.specs.Prelude.{◌≡◌, ◌⊎◌, ℕ, List, Ok, Err, Some, None}
+use Rattle.std.specs.Prelude.{◌≡◌, ◌⊎◌, ℕ, List, Result, Ok, Err, Some, None}
 use Rattle.run_model.specs.declared.step.Order.{Order}
 use Rattle.line_text.specs.declared.cause.Cause.{Cause}
 use Rattle.line_text.specs.declared.cause.Cause.TheVariants as causes
@@ -8,20 +8,29 @@ use Rattle.scenario_text.specs.declared.document.Document.{Document}
 use Rattle.scenario_text.specs.declared.document.Work.{Work}
 use Rattle.scenario_text.specs.declared.document.Work.TheVariants as works
 use Rattle.scenario_text.specs.Groups.{client_words, unbuilt_words, first_line}
-use Rattle.scenario_text.specs.Reading.{IsDocument, document_of}
+use Rattle.scenario_text.specs.Built.{IsBuilt}
+use Rattle.scenario_text.specs.Reading.{IsDocument, document_of, document_of_draft, draft_of}
+use Rattle.plan_answers.specs.Splitting.{document_lines}
 use Rattle.indigo_program.specs.declared.command.Command.{Command}
 use Rattle.indigo_program.specs.declared.command.Command.TheVariants as commands
 
--- the bytes are a document with this schedule, and no line of it holds a word that isn't run yet
+-- the bytes are a document with this schedule, and no line of it holds a word that isn't run yet: so it has no clause, locked predicate, upper bound, interval, free pair, stop, crash or recovery
 pub record IsRunnable (bytes : List ℕ) (document : Document) (orders : List Order) : Type 0 where
   pub read : document_of bytes ≡ Ok document
   pub schedule : document.work ≡ works.Schedule orders
   pub built : first_line unbuilt_words (lines_of bytes) ≡ None
+  pub lacks : IsBuilt document
 
--- the inputs that a command takes
-abbrev pub Takes : Command → List ℕ → Type 0
-Takes commands.Simulate bytes = (document : Document) × (orders : List Order) × IsRunnable bytes document orders
-Takes commands.Print bytes = IsDocument bytes
+-- the document in front of a plan, or its first refused line and why
+abbrev pub document_before : List ℕ → Result Document (ℕ × Cause)
+document_before bytes = document_of_draft (draft_of (document_lines (lines_of bytes)))
+
+-- the inputs that a command is for
+abbrev pub IsInputOf : Command → List ℕ → Type 0
+IsInputOf commands.Simulate bytes = (document : Document) × (orders : List Order) × IsRunnable bytes document orders
+IsInputOf commands.Analyse bytes = IsDocument bytes
+IsInputOf commands.Check bytes = (document : Document) × (document_before bytes ≡ Ok document)
+IsInputOf commands.Print bytes = IsDocument bytes
 
 -- the work is that of clients
 abbrev pub IsOfClients : Work → Type 0
@@ -49,4 +58,6 @@ pub record IsUnbuilt (bytes : List ℕ) (line : ℕ) (cause : Cause) : Type 0 wh
 abbrev pub Refuses : Command → List ℕ → ℕ → Cause → Type 0
 Refuses commands.Simulate bytes line cause =
     (document_of bytes ≡ Err (line, cause)) ⊎ IsOutOfPlace bytes line cause ⊎ IsUnbuilt bytes line cause
+Refuses commands.Analyse bytes line cause = document_of bytes ≡ Err (line, cause)
+Refuses commands.Check bytes line cause = document_before bytes ≡ Err (line, cause)
 Refuses commands.Print bytes line cause = document_of bytes ≡ Err (line, cause)

@@ -7,12 +7,15 @@ ghost use Rattle.replica_core.specs.Tables.{HasNoUpper};
 ghost use Rattle.scenario_text.specs.Built.{StaysUp};
 ghost use Rattle.scenario_text.specs.Reading.{document_of};
 ghost use Rattle.scenario_text.specs.WellFormed.{IsWellFormedDocument, ScheduleFits};
+ghost use Rattle.line_text.specs.Lines.{lines_of};
+ghost use Rattle.plan_answers.specs.Checking as checks;
 ghost use Rattle.indigo_program.specs.CauseTexts.{cause_text, refusal_text};
 ghost use Rattle.indigo_program.specs.Headline.{IsAnswerTo, IsLegalTrace, input_limit, no_plan};
 ghost use Rattle.indigo_program.specs.declared.command.Command.TheVariants as commands;
 
 use crate::command::Command;
 use ind_base::{List, NoMemory, put_num};
+use plan_answers::{Answer, analyse_answer, check_answer, line_count, lines, split_at_plan};
 use request_workers::simulate;
 use run_model::Order;
 use run_trace::trace_text;
@@ -21,13 +24,6 @@ use scenario_text::{
 };
 use spec_model::{Plan, Setup, Spec};
 use std::alloc::Global;
-
-/// A status and a text.
-#[derive(Drop)]
-pub(crate) struct Reply {
-    pub(crate) status: u8,
-    pub(crate) text: List<u8>,
-}
 
 fn put_cause(out: &mut List<u8>, cause: Cause) -> Result<(), NoMemory>
     ensures { OnOk result (out.new ≡ out.old ++ cause_text cause) }
@@ -49,7 +45,7 @@ fn put_cause(out: &mut List<u8>, cause: Cause) -> Result<(), NoMemory>
 }
 
 /// Refuses a line.
-fn refused(alloc: Global, line: u32, cause: Cause) -> Result<Reply, NoMemory>
+fn refused(alloc: Global, line: u32, cause: Cause) -> Result<Answer, NoMemory>
     ensures { IfOk result (λ reply. (reply.status ≡ 3) × (reply.text ≡ refusal_text line cause)) }
 {
     let mut text = List::new(alloc);
@@ -58,7 +54,7 @@ fn refused(alloc: Global, line: u32, cause: Cause) -> Result<Reply, NoMemory>
     text.extend(b": ")?;
     put_cause(&mut text, cause)?;
     text.push(b'\n')?;
-    Ok(Reply { status: 3, text })
+    Ok(Answer { status: 3, text })
 }
 
 /// The trace of replicas on a schedule.
@@ -86,7 +82,7 @@ fn trace(alloc: Global, spec: Spec, replicas: u32, orders: &[Order]) -> Result<L
 }
 
 /// Runs a document, or refuses a line of it that isn't run.
-fn run(alloc: Global, bytes: &[u8], document: Document) -> Result<Reply, NoMemory>
+fn run(alloc: Global, bytes: &[u8], document: Document) -> Result<Answer, NoMemory>
     requires read { document_of bytes.now ≡ Ok document }
     requires formed { IsWellFormedDocument document }
     requires short { length bytes.now ≤ input_limit }
@@ -105,7 +101,7 @@ fn run(alloc: Global, bytes: &[u8], document: Document) -> Result<Reply, NoMemor
         },
         Work::Schedule(orders) => match first_of(bytes, Group::Unbuilt) {
             Some(line) => refused(alloc, line, Cause::UnknownLine),
-            None => Ok(Reply {
+            None => Ok(Answer {
                 status: 0,
                 text: trace(alloc, spec, replicas, orders.as_slice())?,
             }),
@@ -113,7 +109,7 @@ fn run(alloc: Global, bytes: &[u8], document: Document) -> Result<Reply, NoMemor
     }
 }
 
-fn simulated(alloc: Global, bytes: &[u8]) -> Result<Reply, NoMemory>
+fn simulated(alloc: Global, bytes: &[u8]) -> Result<Answer, NoMemory>
     requires { length bytes.now ≤ input_limit }
     ensures { IfOk result (λ reply. IsAnswerTo commands.Simulate bytes.now reply.status reply.text) }
 {
@@ -124,12 +120,12 @@ fn simulated(alloc: Global, bytes: &[u8]) -> Result<Reply, NoMemory>
     }
 }
 
-fn printed(alloc: Global, bytes: &[u8]) -> Result<Reply, NoMemory>
+fn printed(alloc: Global, bytes: &[u8]) -> Result<Answer, NoMemory>
     requires { length bytes.now ≤ input_limit }
     ensures { IfOk result (λ reply. IsAnswerTo commands.Print bytes.now reply.status reply.text) }
 {
     match parse_document(alloc, bytes) {
-        Ok(document) => Ok(Reply {
+        Ok(document) => Ok(Answer {
             status: 0,
             text: print_document(alloc, &document)?,
         }),
@@ -138,13 +134,53 @@ fn printed(alloc: Global, bytes: &[u8]) -> Result<Reply, NoMemory>
     }
 }
 
+fn analysed(alloc: Global, bytes: &[u8]) -> Result<Answer, NoMemory>
+    requires { length bytes.now ≤ input_limit }
+    ensures { IfOk result (λ reply. IsAnswerTo commands.Analyse bytes.now reply.status reply.text) }
+{
+    match parse_document(alloc, bytes) {
+        Ok(document) => analyse_answer(alloc, &document.spec),
+        Err(ParseError::BadLine { line, cause }) => refused(alloc, line, cause),
+        Err(ParseError::Memory) => Err(NoMemory),
+    }
+}
+
+/// The verdict on a plan and a certificate behind a document of so many lines.
+fn verdict(
+    alloc: Global,
+    document: &Document,
+    before: usize,
+    plan: &[u8],
+) -> Result<Answer, NoMemory>
+    requires formed { IsWellFormedDocument document.now }
+    requires short { length plan.now ≤ input_limit }
+    ensures { IfOk result (λ reply. checks.IsAnswer document.now.spec before (lines_of plan.now) reply.status reply.text) }
+{
+    let lines = lines(alloc, plan)?;
+    check_answer(alloc, &document.spec, before, lines.as_slice())
+}
+
+fn checked(alloc: Global, bytes: &[u8]) -> Result<Answer, NoMemory>
+    requires { length bytes.now ≤ input_limit }
+    ensures { IfOk result (λ reply. IsAnswerTo commands.Check bytes.now reply.status reply.text) }
+{
+    let (front, plan) = split_at_plan(bytes);
+    match parse_document(alloc, front) {
+        Ok(document) => verdict(alloc, &document, line_count(front), plan),
+        Err(ParseError::BadLine { line, cause }) => refused(alloc, line, cause),
+        Err(ParseError::Memory) => Err(NoMemory),
+    }
+}
+
 /// What the command answers to this input.
-pub(crate) fn make_reply(alloc: Global, command: Command, bytes: &[u8]) -> Result<Reply, NoMemory>
+pub(crate) fn make_reply(alloc: Global, command: Command, bytes: &[u8]) -> Result<Answer, NoMemory>
     requires { length bytes.now ≤ input_limit }
     ensures { IfOk result (λ reply. IsAnswerTo command bytes.now reply.status reply.text) }
 {
     match command {
         Command::Simulate => simulated(alloc, bytes),
+        Command::Analyse => analysed(alloc, bytes),
+        Command::Check => checked(alloc, bytes),
         Command::Print => printed(alloc, bytes),
     }
 }

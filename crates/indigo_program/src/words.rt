@@ -22,6 +22,10 @@ pub(crate) fn command_of(words: &[String]) -> Option<Command>
 {
     if is_only(words, "simulate") {
         Some(Command::Simulate)
+    } else if is_only(words, "analyse") {
+        Some(Command::Analyse)
+    } else if is_only(words, "check") {
+        Some(Command::Check)
     } else if is_only(words, "print") {
         Some(Command::Print)
     } else {

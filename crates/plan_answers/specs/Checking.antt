@@ -71,3 +71,11 @@ abbrev pub IsAnswer : Spec → ℕ → List (List ℕ) → ℕ → List ℕ → 
 IsAnswer spec before lines status text =
     ((status ≡ 7) × (most_cases < case_count spec) × (text ≡ too_many_text (case_count spec)))
     ⊎ ((case_count spec ≤ most_cases) × IsRead spec before lines status text)
+
+-- not too many cases, and these lines are a plan and a certificate that check
+pub record HasYes (spec : Spec) (lines : List (List ℕ)) : Type 0 where
+  pub few : case_count spec ≤ most_cases
+  pub plan : Plan
+  pub certificate : Certificate
+  pub read : read_of spec lines ≡ reads.Parts plan certificate
+  pub checks : Checks spec plan certificate

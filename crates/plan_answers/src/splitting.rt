@@ -51,7 +51,8 @@ fn plan_place(bytes: &[u8]) -> usize
 pub fn split_at_plan(bytes: &[u8]) -> (&[u8], &[u8])
     ensures front { lines_of result.0.now ≡ document_lines (lines_of bytes.now) }
     ensures rest { lines_of result.1.now ≡ plan_lines (lines_of bytes.now) }
-    ensures short { length result.0.now ≤ length bytes.now }
+    ensures front_short { length result.0.now ≤ length bytes.now }
+    ensures rest_short { length result.1.now ≤ length bytes.now }
 {
     let (front, rest) = bytes.split_at(plan_place(bytes));
     (front, rest)

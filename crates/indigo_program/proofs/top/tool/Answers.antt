@@ -1,14 +1,14 @@
 use Rattle.std.proofs.Common.{inl, inr, refl}
-use Rattle.indigo_program.proofs.Answered.{complete, err_is, finished, reply_read}
+use Rattle.indigo_program.proofs.Answered.{complete, err_is, finished, keeps_all, reply_read}
 use Rattle.indigo_program.proofs.top.tool.Goals as goal
 
 pub returns-in-None-clause-answered : goal.returns-in-None-clause-answered
 returns-in-None-clause-answered g c =
-    finished _ _ _ 2 _ _ _ (inl (refl, refl, c.in-None.ensures.none)) refl c.finish.ensures
+    finished _ _ _ 2 _ _ _ (inl (refl, refl, c.in-None.ensures.none, keeps_all _)) refl c.finish.ensures
 
 pub returns-in-Err-Fault-clause-answered : goal.returns-in-Err-Fault-clause-answered
 returns-in-Err-Fault-clause-answered g c =
-    finished _ _ _ 4 _ _ _ (inr (c.in-Some.command, c.in-Some.ensures.some, inl (refl, refl, c.in-Err-Fault.ensures.cause.failed (err_is _ _ c.in-Err-Fault.field-0-is)))) refl c.finish-in-Err-Fault.ensures
+    finished _ _ _ 4 _ _ _ (inr (c.in-Some.command, c.in-Some.ensures.some, inl (refl, refl, c.in-Err-Fault.ensures.cause.failed (err_is _ _ c.in-Err-Fault.field-0-is), c.in-Err-Fault.ensures.fault (err_is _ _ c.in-Err-Fault.field-0-is)))) refl c.finish-in-Err-Fault.ensures
 
 pub returns-in-Err-TooLong-clause-answered : goal.returns-in-Err-TooLong-clause-answered
 returns-in-Err-TooLong-clause-answered g c =
