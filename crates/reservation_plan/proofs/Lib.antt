@@ -6,3 +6,4 @@ pub mod Paired
 pub mod Partners
 pub mod Reserved
 pub mod Steps
+pub mod Telling
