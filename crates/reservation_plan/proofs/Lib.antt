@@ -1,5 +1,6 @@
 pub mod Coming
 pub mod Conflicting
+pub mod Exact
 pub mod Lined
 pub mod Made
 pub mod Paired

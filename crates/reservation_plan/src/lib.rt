@@ -10,5 +10,5 @@ mod planning;
 mod reserving;
 
 pub use analysed::{Analysed, DeriveError};
-pub use laws::tells_conflicts;
+pub use laws::{reserves_conflicts, tells_conflicts};
 pub use planning::derive;
