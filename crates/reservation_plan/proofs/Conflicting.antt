@@ -43,7 +43,7 @@ all_each : {X : Type 0} (p : X → Bool) (xs : List X) → AllByRecursion (λ x.
 all_each p [] h = refl
 all_each p (x ∷ xs) h = and_from (p x) (list_all p xs) h.0 (all_each p xs h.1)
 
-each_all : {X : Type 0} (p : X → Bool) (xs : List X) → list_all p xs ≡ true → AllByRecursion (λ x. p x ≡ true) xs
+pub each_all : {X : Type 0} (p : X → Bool) (xs : List X) → list_all p xs ≡ true → AllByRecursion (λ x. p x ≡ true) xs
 each_all p [] h = tt
 each_all p (x ∷ xs) h = let k = and_parts (p x) (list_all p xs) h in (k.0, each_all p xs k.1)
 

@@ -1,8 +1,10 @@
 pub mod Coming
 pub mod Conflicting
+pub mod Exact
 pub mod Lined
 pub mod Made
 pub mod Paired
 pub mod Partners
 pub mod Reserved
 pub mod Steps
+pub mod Telling

@@ -37,7 +37,7 @@ pairs_known spec =
 
 -- ---- there are few
 
-length-upto : (k n : ℕ) → length (upto_from k n) ≡ n
+pub length-upto : (k n : ℕ) → length (upto_from k n) ≡ n
 length-upto k zero = refl
 length-upto k (suc n) = ap suc (length-upto (suc k) n)
 

@@ -40,7 +40,7 @@ map_each P f (x ∷ xs) h = (h.0, map_each P f xs h.1)
 pub judged_known : (spec : Spec) (a b : ℕ) (js : List Judged) → IsWellFormed spec → a < length spec.ops → b < length spec.ops → map case_of js ≡ pair_cases spec a b → AllByRecursion (IsKnown spec) js
 judged_known spec a b js wf la lb is = map_each (CaseKnown spec) case_of js (subst (AllByRecursion (CaseKnown spec)) (sym is) (cases_known spec a b wf la lb))
 
-each_always : {X : Type 0} (P : X → Type 0) (xs : List X) → ((x : X) → P x) → AllByRecursion P xs
+pub each_always : {X : Type 0} (P : X → Type 0) (xs : List X) → ((x : X) → P x) → AllByRecursion P xs
 each_always P [] f = tt
 each_always P (x ∷ xs) f = (f x, each_always P xs f)
 
@@ -119,7 +119,7 @@ reservation_fits spec a b ks k own is =
     and_from (eqb a k.a) (eqb b k.b && list_all (pair_meets spec k) (key_of spec a b ks)) (eq-eqb a k.a (sym own.0))
     (and_from (eqb b k.b) (list_all (pair_meets spec k) (key_of spec a b ks)) (eq-eqb b k.b (sym own.1)) (key_meets spec a b ks k is))
 
-among_some : {X : Type 0} (x : X) (xs : List X) → Among x xs → is_nil xs ≡ false
+pub among_some : {X : Type 0} (x : X) (xs : List X) → Among x xs → is_nil xs ≡ false
 among_some x [] h = absurd h
 among_some x (y ∷ xs) h = refl
 

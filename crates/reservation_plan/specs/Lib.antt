@@ -3,3 +3,4 @@ pub mod Derived
 pub mod Drafting
 pub mod Ends
 pub mod Judging
+pub mod Laws

@@ -5,8 +5,10 @@
 mod analysed;
 mod drafting;
 mod judging;
+mod laws;
 mod planning;
 mod reserving;
 
 pub use analysed::{Analysed, DeriveError};
+pub use laws::{reserves_conflicts, tells_conflicts};
 pub use planning::derive;
