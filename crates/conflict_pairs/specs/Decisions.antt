@@ -1,5 +1,5 @@
 -- What is found of a case.
-use Rattle.std.specs.Prelude.{◌≡◌, ℕ, ◌<◌, Bool, true, false}
+use Rattle.std.specs.Prelude.{◌≡◌, ◌<◌, Bool, true, false}
 use Rattle.clause_solver.specs.Models.{IsLeastModel}
 use Rattle.conflict_pairs.specs.declared.decided.Decided.{Decided}
 use Rattle.conflict_pairs.specs.declared.decided.Decided.TheVariants.{Opposes, Model, Refuted}

@@ -7,18 +7,18 @@ use Rattle.ground_clauses.proofs.Forms.{ClauseTrue, IsOwn, RiseOwn, TellsAtom, T
 use Rattle.ground_clauses.proofs.Lists.{any_map, each_append_left, each_append_right, each_both, each_weaker, flat_map_each, none_each}
 use Rattle.ground_clauses.proofs.Numbers.{beq_not, same_atom-true, same_lit-true}
 use Rattle.ground_clauses.proofs.Parts.{any_flat, or_none}
-use Rattle.ground_clauses.specs.Cases.{case_hypotheses, case_sets, case_variables, equalities_true, equality_holds, equality_true, is_touched, query_of, target_classes, target_of, touches}
+use Rattle.ground_clauses.specs.Cases.{case_hypotheses, case_sets, case_variables, equalities_true, equality_holds, equality_true, query_of, target_classes, target_of, touches}
 use Rattle.ground_clauses.specs.Derivations.{Solves, lit_true}
 use Rattle.ground_clauses.specs.Laws.{IsQuadrupleOf, before_both}
-use Rattle.ground_clauses.specs.Query.{Hypothesis, Sets, atom_clauses, atom_of, atom_variables, atoms_of, clause_of, dedup, dedup_after, denial, denials, entry_at, entry_variables, form_lits, forms, has_both_signs, hypothesis_clauses, index_of, is_atom, is_certain, literal_form, literal_is_atom, numbered, opposite, query_clauses, rise_clause, rises_at, same_atom, same_lit, same_moment, same_variable, signed_form, state_lit, variable, variables_of, winner}
-use Rattle.ground_clauses.specs.States.{IsShown, ModelShows, entry_truth, states_by, truth_in_state}
+use Rattle.ground_clauses.specs.Query.{Hypothesis, Sets, atom_clauses, atom_of, atom_variables, atoms_of, clause_of, dedup, dedup_after, denial, denials, entry_at, entry_variables, form_lits, forms, has_both_signs, hypothesis_clauses, index_of, is_atom, is_certain, literal_form, literal_is_atom, numbered, opposite, query_clauses, rise_clause, rises_at, same_atom, same_lit, same_moment, same_variable, signed_form, variable, variables_of, winner}
+use Rattle.ground_clauses.specs.States.{ModelShows, entry_truth, states_by, truth_in_state}
 use Rattle.ground_clauses.specs.declared.case.Case.{Case}
 use Rattle.ground_clauses.specs.declared.state_lit.Form.{Form}
 use Rattle.ground_clauses.specs.declared.state_lit.Form.TheVariants.{Constant, Open}
 use Rattle.ground_clauses.specs.declared.state_lit.StateLit.{StateLit}
 use Rattle.ground_clauses.specs.declared.state_lit.Variable.{Variable}
-use Rattle.spec_model.specs.Stable.{IsRow, Reads, touch_of}
-use Rattle.spec_model.specs.Truths.{Signed, Truths, clause_in, instance_true, literal_true, literals, signed_true}
+use Rattle.spec_model.specs.Stable.{Reads, touch_of}
+use Rattle.spec_model.specs.Truths.{Signed, clause_in, instance_true, literal_true, literals, signed_true}
 use Rattle.spec_model.specs.declared.clause.Literal.{Literal}
 use Rattle.spec_model.specs.declared.clause.Literal.TheVariants.{Atom, Equal}
 use Rattle.spec_model.specs.declared.instance.Atom.{Atom as ClassAtom}
@@ -28,7 +28,6 @@ use Rattle.spec_model.specs.declared.state.Entry.TheVariants.{Always, Same}
 use Rattle.spec_model.specs.declared.state.Moment.{Moment}
 use Rattle.spec_model.specs.declared.state.Moment.TheVariants.{Both, First, Second, Start}
 use Rattle.spec_model.specs.declared.state.Rise.{Rise}
-use Rattle.spec_model.specs.declared.state.Touch.{Touch}
 
 -- ---- lists
 
