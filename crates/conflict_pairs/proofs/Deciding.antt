@@ -3,10 +3,11 @@ use Rattle.std.proofs.Common.{◌≡◌, ◌⊎◌, inl, inr, ℕ, Bool, true, f
 use Rattle.std.specs.Prelude.{◌↔◌}
 use Rattle.std.proofs.lemmas.Bool.{cases_Bool, true≢false}
 use Rattle.clause_solver.specs.Models.{IsLeastModel, truth_in}
-use Rattle.conflict_pairs.specs.Decisions.{IsDecision, IsFound, tells_conflict}
+use Rattle.conflict_pairs.specs.Decisions.{IsDecision, IsFound, IsShownBy, ShowsWhy, tells_conflict}
 use Rattle.conflict_pairs.specs.declared.decided.Decided.{Decided}
 use Rattle.conflict_pairs.specs.declared.decided.Decided.TheVariants.{Model, Opposes as opposing, Refuted}
 use Rattle.ground_clauses.proofs.Derives.{no_model}
+use Rattle.ground_clauses.proofs.Shown.{model_shows}
 use Rattle.ground_clauses.specs.Cases.{cnf_of, target_cnf, touched_by}
 use Rattle.ground_clauses.specs.Conflicting.{ClauseViolated, IsConflicting, IsTouchedCase, LockOpposed, Opposes, Violates}
 use Rattle.ground_clauses.specs.declared.case.Case.{Case}
@@ -40,6 +41,15 @@ decision_clears spec k d touched is =
         | inr not_told ↦ not_told
       ],
     )
+
+pub decision_shows : (spec : Spec) (k : Case) (d : Decided) → IsTouchedCase spec k → IsDecision spec k d → ShowsWhy spec k d
+decision_shows spec k d touched is = by_target k.target d touched.touched is
+  where
+    by_target : (t : Target) (d : Decided) → touched_by spec k t ≡ true → IsFound (target_cnf spec k t) t d → IsShownBy spec k t d
+    by_target (of_pred p) d touched is = tt
+    by_target (of_clause t) opposing touched is = tt
+    by_target (of_clause t) (Model m) touched is = model_shows spec k t m touched is.model.solves
+    by_target (of_clause t) (Refuted d) touched is = tt
 
 pub model_violates : (spec : Spec) (k : Case) (m : List Bool) → IsDecision spec k (Model m) → Violates spec k × IsLeastModel (cnf_of spec k) m
 model_violates spec k m is = by_target k.target is

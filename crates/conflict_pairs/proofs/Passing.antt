@@ -5,7 +5,7 @@ use Rattle.std.specs.List.{AllByRecursion}
 use Rattle.clause_solver.specs.Models.{IsLeastModel}
 use Rattle.conflict_pairs.proofs.Deciding.{IsLocked, decision_clears, model_violates, opposes_locked}
 use Rattle.conflict_pairs.specs.Decisions.{IsDecision, IsHard}
-use Rattle.conflict_pairs.specs.Kinds.{IsFirst, IsOpposing, IsStuck, IsViolating, NoneIs, opposing_after, turn_of}
+use Rattle.conflict_pairs.specs.Kinds.{IsFirst, IsStuck, IsViolating, NoneIs, opposing_after, turn_of}
 use Rattle.conflict_pairs.specs.declared.decided.Decided.{Decided}
 use Rattle.conflict_pairs.specs.declared.decided.Decided.TheVariants.{Model, Opposes as opposing, Refuted}
 use Rattle.conflict_pairs.specs.declared.pair_kind.Turn.TheVariants.{Ends, Goes}
@@ -13,7 +13,6 @@ use Rattle.ground_clauses.proofs.Lists.{each_append, each_both, each_weaker}
 use Rattle.ground_clauses.specs.Cases.{cnf_of}
 use Rattle.ground_clauses.specs.Conflicting.{IsConflicting, IsTouchedCase, Opposes, Violates}
 use Rattle.ground_clauses.specs.declared.case.Case.{Case}
-use Rattle.ground_clauses.specs.declared.case.Target.{Target}
 use Rattle.ground_clauses.specs.declared.case.Target.TheVariants.{Locked as of_pred}
 use Rattle.spec_model.specs.declared.spec.Spec.{Spec}
 

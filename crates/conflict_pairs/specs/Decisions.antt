@@ -1,10 +1,11 @@
 -- What is found of a case.
-use Rattle.std.specs.Prelude.{◌≡◌, ℕ, ◌<◌, Bool, true, false}
+use Rattle.std.specs.Prelude.{◌≡◌, ◌<◌, Bool, true, false}
 use Rattle.clause_solver.specs.Models.{IsLeastModel}
 use Rattle.conflict_pairs.specs.declared.decided.Decided.{Decided}
 use Rattle.conflict_pairs.specs.declared.decided.Decided.TheVariants.{Opposes, Model, Refuted}
 use Rattle.ground_clauses.specs.Cases.{cnf_of}
 use Rattle.ground_clauses.specs.Derivations.{refutes}
+use Rattle.ground_clauses.specs.States.{IsShown, states_by}
 use Rattle.ground_clauses.specs.declared.case.Case.{Case}
 use Rattle.ground_clauses.specs.declared.case.Target.{Target}
 use Rattle.ground_clauses.specs.declared.case.Target.TheVariants.{Clause as of_clause, Locked as of_pred}
@@ -22,6 +23,14 @@ IsFound cnf (of_clause t) (Refuted d) = refutes cnf.clauses d.steps ≡ true
 -- it opposes exactly for a locked target; else the query's least model, or a right derivation that ends in a step without literals
 abbrev pub IsDecision : Spec → Case → Decided → Type 0
 IsDecision spec k d = IsFound (cnf_of spec k) k.target d
+
+abbrev pub IsShownBy : Spec → Case → Target → Decided → Type 0
+IsShownBy spec k (of_clause t) (Model m) = IsShown spec k t (states_by spec k t m)
+IsShownBy spec k t d = Unit {0}
+
+-- the states of a model show how the two operations, each harmless alone, break the clause
+abbrev pub ShowsWhy : Spec → Case → Decided → Type 0
+ShowsWhy spec k d = IsShownBy spec k k.target d
 
 -- the case is conflicting by what was found
 abbrev pub tells_conflict : Decided → Bool

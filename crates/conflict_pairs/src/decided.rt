@@ -3,7 +3,7 @@
 ghost use Rattle.std.specs.Prelude.{◌≡◌, ℕ, ◌<◌, ◌↔◌, true, false, IfOk, Err};
 ghost use Rattle.clause_solver.specs.Models.{IsAnswer};
 ghost use Rattle.clause_solver.specs.declared.answer.SolveError.TheVariants as errors;
-ghost use Rattle.conflict_pairs.specs.Decisions.{IsDecision, IsHard, tells_conflict};
+ghost use Rattle.conflict_pairs.specs.Decisions.{IsDecision, IsHard, ShowsWhy, tells_conflict};
 ghost use Rattle.ground_clauses.specs.Cases.{cnf_of};
 ghost use Rattle.ground_clauses.specs.Conflicting.{IsConflicting, IsTouchedCase};
 ghost use Rattle.spec_model.specs.Fits.{IsWellFormed};
@@ -56,7 +56,7 @@ fn found(alloc: Global, spec: &Spec, case: &Case) -> Result<Decided, SolveError>
 
 /// Decides a touched case, such as `cases` gives. `TooHard` comes exactly where the query has more
 /// than 128 variables; `Memory` may come at any case of a clause.
-#[tactic(auto, using(crate::proofs::Deciding::decision_tells, crate::proofs::Deciding::decision_clears))]
+#[tactic(auto, using(crate::proofs::Deciding::decision_tells, crate::proofs::Deciding::decision_clears, crate::proofs::Deciding::decision_shows))]
 pub fn decide(alloc: Global, spec: &Spec, case: &Case) -> Result<Decided, SolveError>
     requires well_formed { IsWellFormed spec.now }
     requires touched { IsTouchedCase spec.now case.now }
@@ -64,6 +64,7 @@ pub fn decide(alloc: Global, spec: &Spec, case: &Case) -> Result<Decided, SolveE
     // It is conflicting exactly where it opposes or has a model.
     ensures conflicting { IfOk result (λ found. (tells_conflict found ≡ true) ↔ IsConflicting spec.now case.now) }
     ensures harmless { IfOk result (λ found. (tells_conflict found ≡ false) ↔ (IsConflicting spec.now case.now → ⊥)) }
+    ensures shown { IfOk result (λ found. ShowsWhy spec.now case.now found) }
 
     ensures easy { IfOk result (λ found. IsHard spec.now case.now → ⊥) }
     ensures cause { (n : ℕ) → result ≡ Err (errors.TooHard n) → IsHard spec.now case.now × (n ≡ (cnf_of spec.now case.now).vars) }

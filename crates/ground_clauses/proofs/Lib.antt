@@ -18,6 +18,7 @@ pub mod Reaches
 pub mod Refuted
 pub mod Seen
 pub mod Shapes
+pub mod Shown
 pub mod Speaking
 pub mod Stands
 pub mod Totals

@@ -75,7 +75,7 @@ beq-true false false h = refl
 beq-true true false h = absurd (true≢false (sym h))
 beq-true false true h = absurd (true≢false (sym h))
 
-same_lit-true : (x y : StateLit) → same_lit x y ≡ true → x ≡ y
+pub same_lit-true : (x y : StateLit) → same_lit x y ≡ true → x ≡ y
 same_lit-true x y h =
     let k = and_parts (same_variable x.var y.var) (beq x.yes y.yes) h in
     ap (λ v. state_lit v x.yes) (same_variable-true x.var y.var k.0) ∙ ap (λ b. state_lit y.var b) (beq-true x.yes y.yes k.1)
@@ -122,7 +122,7 @@ tells_atom spec sets q hs a listed k b own =
 pub respects : (spec : Spec) (sets : Sets) (q : Moment → Truths) (hs : List Hypothesis) (x y : StateLit) → same_lit x y ≡ true → numbered_true spec sets q hs x ≡ numbered_true spec sets q hs y
 respects spec sets q hs x y is = ap (numbered_true spec sets q hs) (same_lit-true x y is)
 
-beq_not : (t b : Bool) → beq t (not b) ≡ not (beq t b)
+pub beq_not : (t b : Bool) → beq t (not b) ≡ not (beq t b)
 beq_not true true = refl
 beq_not true false = refl
 beq_not false true = refl

@@ -1,7 +1,7 @@
 -- The literals of a touched case's query are of its own variables.
-use Rattle.std.proofs.Common.{◌≡◌, inl, inr, ℕ, zero, suc, ◌<◌, ◌≤◌, max, Bool, true, false, ◌&&◌, ◌||◌, cond, not, eqb, List, [], ◌∷◌, ◌++◌, map, length, get_or, drop, refl, sym, ap, subst, ◌∙◌, arith}
+use Rattle.std.proofs.Common.{◌≡◌, inl, inr, ℕ, zero, suc, ◌<◌, ◌≤◌, max, Bool, true, false, ◌&&◌, ◌||◌, cond, not, eqb, List, [], ◌∷◌, ◌++◌, map, length, get_or, drop, refl, sym, subst, arith}
 use Rattle.std.specs.List.{list_any, AllByRecursion, filter, flat_map}
-use Rattle.std.proofs.lemmas.Bool.{and_parts, cases_Bool, eq-eqb, true≢false}
+use Rattle.std.proofs.lemmas.Bool.{and_parts, eq-eqb, true≢false}
 use Rattle.ground_clauses.proofs.Forms.{IsOwn, RiseOwn, entry_own, rises_own}
 use Rattle.ground_clauses.proofs.Hypotheses.{Among, among_each, target_among}
 use Rattle.ground_clauses.proofs.Lists.{each_append, each_dedup, each_filter, each_flat_map, each_itself, each_map, each_weaker, flat_map_each}
@@ -10,7 +10,7 @@ use Rattle.ground_clauses.proofs.Seen.{index_below}
 use Rattle.ground_clauses.specs.Cases.{TargetKnown, case_hypotheses, case_sets, class_count, classes_in, equalities_true, is_touched, is_touched_case, pattern_sorts, plain_sorts, target_classes, target_cnf, target_of, target_sorts, touched_by, touches, cnf_of}
 use Rattle.ground_clauses.specs.Derivations.{SpeaksOf}
 use Rattle.ground_clauses.specs.Listing.{CaseFits}
-use Rattle.ground_clauses.specs.Query.{Hypothesis, Sets, atom_clauses, atom_form, atom_of, atom_variables, atoms_of, clause_of, dedup, denial, denials, entry_at, form_lits, forms, has_both_signs, hypothesis_clauses, index_of, instance_atoms, is_atom, is_certain, literal_atoms, literal_form, numbered, query_clauses, rise_clause, rises_at, same_atom, same_lit, same_variable, signed_form, variables_of, winner}
+use Rattle.ground_clauses.specs.Query.{Hypothesis, Sets, atom_clauses, atom_form, atom_of, atoms_of, clause_of, dedup, denial, denials, entry_at, form_lits, forms, has_both_signs, hypothesis_clauses, instance_atoms, is_atom, is_certain, literal_atoms, literal_form, numbered, query_clauses, rise_clause, rises_at, same_atom, same_lit, same_variable, signed_form, variables_of, winner}
 use Rattle.ground_clauses.specs.declared.case.Case.{Case}
 use Rattle.ground_clauses.specs.declared.case.Target.{Target}
 use Rattle.ground_clauses.specs.declared.case.Target.TheVariants.{Clause as of_clause, Locked as of_pred}
@@ -19,7 +19,7 @@ use Rattle.ground_clauses.specs.declared.state_lit.Form.TheVariants.{Constant, O
 use Rattle.ground_clauses.specs.declared.state_lit.StateLit.{StateLit}
 use Rattle.ground_clauses.specs.declared.state_lit.Variable.{Variable}
 use Rattle.spec_model.specs.Stable.{touch_of}
-use Rattle.spec_model.specs.Truths.{Signed, Within, clause_in, literals, op_at, values, var_sorts}
+use Rattle.spec_model.specs.Truths.{Within, clause_in, literals, op_at, values, var_sorts}
 use Rattle.spec_model.specs.declared.clause.Literal.{Literal}
 use Rattle.spec_model.specs.declared.clause.Literal.TheVariants.{Atom, Equal}
 use Rattle.spec_model.specs.declared.instance.Atom.{Atom as ClassAtom}

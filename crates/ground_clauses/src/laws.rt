@@ -1,6 +1,7 @@
 //! What cases and their queries show of instances: laws, which run nothing.
 
 ghost use Rattle.ground_clauses.specs.Laws.{RefutedHolds, DerivationRefutes, CaseKeeps, HasItsCase};
+ghost use Rattle.ground_clauses.specs.States.{ModelShows};
 
 /// A refuted query makes the target's instance true with both.
 pub fn refuted_holds()
@@ -20,4 +21,9 @@ pub fn case_keeps()
 /// Every two instances with every assignment have their case in the canonical list.
 pub fn has_its_case()
     ensures { HasItsCase }
+{}
+
+/// The states of a model show how the two operations, each harmless alone, break the target.
+pub fn model_shows()
+    ensures { ModelShows }
 {}

@@ -21,7 +21,7 @@ mod walk;
 pub use case::{Case, Target};
 pub use clauses::{Cnf, Derivation, Lit, Step};
 pub use counting::case_count;
-pub use laws::{case_keeps, has_its_case, no_model, refuted_holds};
+pub use laws::{case_keeps, has_its_case, model_shows, no_model, refuted_holds};
 pub use listing::cases;
 pub use pattern::classes_in;
 pub use queries::query;

@@ -1,10 +1,10 @@
 -- Texts of lists, one piece after the other.
-use Rattle.std.proofs.Common.{◌≡◌, ℕ, zero, suc, ◌+◌, ◌-◌, ◌<◌, ◌≤◌, List, [], ◌∷◌, ◌++◌, length, get_or, drop, refl, sym, ap, arith, ◌∙◌}
+use Rattle.std.proofs.Common.{◌≡◌, ℕ, suc, ◌+◌, ◌-◌, ◌<◌, ◌≤◌, List, [], ◌∷◌, ◌++◌, length, get_or, drop, refl, ap, arith, ◌∙◌}
 use Rattle.std.specs.Prelude.{decimal}
 use Rattle.std.specs.List.{flat_map}
 use Rattle.ground_clauses.proofs.Reaches.{at_place, past_end}
 use Rattle.ground_clauses.specs.Cases.{upto_from}
-use Rattle.rejection_text.specs.Texts.{behind, bit_text, comma, numbers_from, numbers_text, param_text, params_from, params_text}
+use Rattle.rejection_text.specs.Texts.{behind, comma, numbers_from, numbers_text, param_text, params_from, params_text}
 use Rattle.spec_model.specs.Truths.{no_pred}
 use Rattle.spec_model.specs.declared.clause.Var.{Var}
 use Rattle.spec_model.specs.declared.spec.Pred.{Pred}
