@@ -15,7 +15,13 @@ use std::{fs, io, mem};
 const ROOM: u64 = 1_000_000;
 
 /// The files of examples.
-const FILES: [&str; 4] = ["examples.txt", "language.txt", "limits.txt", "runs.txt"];
+const FILES: [&str; 5] = [
+    "examples.txt",
+    "language.txt",
+    "limits.txt",
+    "plans.txt",
+    "runs.txt",
+];
 
 /// An example: what is asked, and what has to be answered.
 #[derive(Drop)]
