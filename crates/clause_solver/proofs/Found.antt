@@ -1,5 +1,5 @@
 -- What is found: a model, which no other comes before.
-use Rattle.std.proofs.Common.{◌≡◌, ◌≢◌, ℕ, zero, suc, ◌+◌, ◌<◌, ◌≤◌, Bool, true, false, cond, ◌&&◌, ◌||◌, not, eqb, List, [], ◌∷◌, ◌++◌, length, get_or, map, refl, sym, ap, subst, ◌∙◌, ◌⊎◌, inl, inr, arith}
+use Rattle.std.proofs.Common.{◌≡◌, ◌≢◌, ℕ, zero, suc, ◌<◌, Bool, true, false, cond, not, List, [], ◌∷◌, ◌++◌, length, map, refl, sym, ap, subst, ◌∙◌, inl, inr}
 use Rattle.std.specs.Prelude.{slice_get, Some, None, Option, IfNone}
 use Rattle.std.specs.List.{list_any, AllByRecursion}
 use mathlib.Core.Bool.{beq}
@@ -17,7 +17,7 @@ use Rattle.clause_solver.specs.Assigning.{is_truth, is_yes, left, lit_false, val
 use Rattle.clause_solver.specs.Learned.{IsSearch, rows_of}
 use Rattle.clause_solver.specs.Models.{IsAtMost, IsLeastModel, IsModel, truth_in}
 use Rattle.clause_solver.specs.Search.{IsConflict, KnownBelow}
-use Rattle.clause_solver.specs.Trails.{Follow, IsCause, IsEntry, IsTrail, blank, values_after}
+use Rattle.clause_solver.specs.Trails.{Follow, IsCause, IsTrail, blank, values_after}
 use Rattle.clause_solver.specs.declared.assignment.Cause.{Cause}
 use Rattle.clause_solver.specs.declared.assignment.Cause.TheVariants.{Choice, Row}
 use Rattle.clause_solver.specs.declared.assignment.Entry.{Entry}

@@ -1,19 +1,18 @@
 -- Literals among others, and literals that are false.
-use Rattle.std.proofs.Common.{◌≡◌, ◌≢◌, ℕ, zero, suc, ◌<◌, ◌≤◌, Bool, true, false, cond, ◌||◌, ◌&&◌, not, eqb, List, [], ◌∷◌, ◌++◌, length, get_or, set, replicate, refl, sym, ap, subst, ◌∙◌, ◌⊎◌, inl, inr, arith}
+use Rattle.std.proofs.Common.{◌≡◌, ◌≢◌, ℕ, zero, suc, ◌<◌, ◌≤◌, Bool, true, false, cond, not, eqb, List, [], ◌∷◌, ◌++◌, length, get_or, set, refl, sym, ap, subst, ◌∙◌, ◌⊎◌, inl, inr}
 use Rattle.std.specs.Prelude.{filter, slice_get, None}
 use Rattle.std.specs.List.{list_any, AllByRecursion}
 use mathlib.Core.Bool.{beq}
-use Rattle.std.proofs.lemmas.Bool.{and_from, and_parts, cases_Bool, cases_eq, cases_lt, eq-eqb, eqb-true, false_from_ne_true, ne_eqb, or_cases, or_from, or_left, or_parts, or_right, true≢false}
+use Rattle.std.proofs.lemmas.Bool.{and_from, and_parts, cases_Bool, cases_eq, cases_lt, eq-eqb, eqb-true, ne_eqb, or_cases, or_from, or_left, or_parts, or_right, true≢false}
 use Rattle.std.proofs.lemmas.List.{get_or-set_other, get_or-set_same, get_or_past, length-set}
-use Rattle.ground_clauses.proofs.Lists.{any_append_left, any_append_right}
+use Rattle.ground_clauses.proofs.Lists.{any_append_right}
 use Rattle.ground_clauses.specs.Derivations.{opposite_num, repeats, same_num}
 use Rattle.ground_clauses.specs.declared.clauses.Lit.{Lit}
-use Rattle.clause_solver.proofs.Steps.{value_not_open}
 use Rattle.clause_solver.specs.Assigning.{is_truth, left, lit_false, value_at, value_of, with_lit}
 use Rattle.clause_solver.specs.Refuting.{IsMarked, among}
 use Rattle.clause_solver.specs.Trails.{blank}
 use Rattle.clause_solver.specs.declared.assignment.Value.{Value}
-use Rattle.clause_solver.specs.declared.assignment.Value.TheVariants.{Open, No, Yes}
+use Rattle.clause_solver.specs.declared.assignment.Value.TheVariants.{Open}
 
 beq_same : (b : Bool) → beq b b ≡ true
 beq_same true = refl

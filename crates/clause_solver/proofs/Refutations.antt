@@ -1,14 +1,14 @@
 -- Going back over the trail: a literal that has no part, one that is kept, one that its row stands in for.
-use Rattle.std.proofs.Common.{◌≡◌, ◌≢◌, ℕ, zero, suc, ◌+◌, ◌<◌, ◌≤◌, Bool, true, false, cond, ◌&&◌, not, List, [], ◌∷◌, ◌++◌, length, get_or, reverse, take, drop, refl, sym, lit<, ap, subst, ◌∙◌, ◌⊎◌, inl, inr, arith}
-use Rattle.std.specs.Prelude.{slice_get, Some, None, Option}
-use Rattle.std.specs.List.{list_any, AllByRecursion}
+use Rattle.std.proofs.Common.{◌≡◌, ◌≢◌, ℕ, ◌+◌, ◌<◌, Bool, true, false, not, List, [], ◌∷◌, ◌++◌, length, get_or, reverse, take, drop, refl, sym, lit<, ap, subst, ◌∙◌, inl, inr, arith}
+use Rattle.std.specs.Prelude.{slice_get, Some}
+use Rattle.std.specs.List.{AllByRecursion}
 use Rattle.std.proofs.lemmas.Bool.{and_from, cases_Bool, false_from_ne_true, not_from_false, true≢false}
 use Rattle.std.proofs.lemmas.List.{drop_more, length-reverse, length-set, length_push, reverse-append, take-append-drop, take_all, take_more}
 use Rattle.std.proofs.lemmas.Option.{get_or_from_slice_get}
 use Rattle.ground_clauses.proofs.Lists.{any_append_left, each_append, each_weaker}
 use Rattle.ground_clauses.specs.Derivations.{ends_false, hint_goes, is_nil, is_right, makes_true, opposite_num, propagates, repeats, same_num, undecided}
 use Rattle.ground_clauses.specs.declared.clauses.Lit.{Lit}
-use Rattle.clause_solver.proofs.Marks.{among_each, among_last, among_push, blank_open, each_among, false_before, false_known, false_later, false_within, filter_same, left_among, opposite_false, repeats_push, same_parts, same_self}
+use Rattle.clause_solver.proofs.Marks.{among_each, among_last, among_push, blank_open, each_among, false_before, false_known, false_later, false_within, filter_same, left_among, opposite_false, repeats_push, same_parts}
 use Rattle.clause_solver.proofs.Steps.{follow-next, open_before, values_after-push}
 use Rattle.clause_solver.specs.Assigning.{left, lit_false, value_at, value_of, with_lit}
 use Rattle.clause_solver.specs.Refuting.{Covers, IsMarked, IsRefuting, among, values_before}

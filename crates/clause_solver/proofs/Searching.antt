@@ -1,5 +1,5 @@
 -- Drawing consequences step by step.
-use Rattle.std.proofs.Common.{◌≡◌, ◌≢◌, ℕ, ◌+◌, ◌<◌, ◌≤◌, Bool, true, false, List, [], ◌∷◌, ◌++◌, length, refl, sym, ap, subst, ◌∙◌, inl, inr, arith}
+use Rattle.std.proofs.Common.{◌≡◌, ◌≢◌, ℕ, ◌+◌, ◌<◌, List, [], ◌∷◌, length, refl, sym, ap, subst, ◌∙◌, inl, inr, arith}
 use Rattle.std.specs.Prelude.{slice_get, Some, None}
 use Rattle.std.proofs.lemmas.Bool.{cases_eq, cases_lt}
 use Rattle.std.proofs.lemmas.Option.{slice_get_past}
@@ -8,10 +8,10 @@ use Rattle.clause_solver.proofs.Steps.{none_undone}
 use Rattle.clause_solver.specs.Assigning.{kind_of, left, value_at}
 use Rattle.clause_solver.specs.Search.{IsConflict, KnownBelow, Moves}
 use Rattle.clause_solver.specs.Trails.{Grows, IsTrail}
-use Rattle.clause_solver.specs.declared.assignment.Left.TheVariants.{Nothing, One, Many}
+use Rattle.clause_solver.specs.declared.assignment.Left.TheVariants.{Nothing, One}
 use Rattle.clause_solver.specs.declared.assignment.Trail.{Trail}
 use Rattle.clause_solver.specs.declared.assignment.Value.{Value}
-use Rattle.clause_solver.specs.declared.assignment.Value.TheVariants.{Open, No, Yes}
+use Rattle.clause_solver.specs.declared.assignment.Value.TheVariants.{Open}
 
 pub moves_none : (rows : List (List Lit)) (t : Trail) → IsTrail rows t → Moves rows t t
 moves_none rows t is = record { trail = is; grows = record { size = refl; stays = λ u e. e } }

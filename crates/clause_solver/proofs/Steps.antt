@@ -1,5 +1,5 @@
 -- Literals that are made true and taken back, one after the other.
-use Rattle.std.proofs.Common.{◌≡◌, ◌≢◌, ℕ, zero, suc, ◌+◌, ◌<◌, ◌≤◌, Bool, true, false, not, cond, List, [], ◌∷◌, ◌++◌, length, get_or, set, take, drop, replicate, refl, sym, ap, subst, ◌∙◌, inl, inr, arith}
+use Rattle.std.proofs.Common.{◌≡◌, ◌≢◌, ℕ, zero, suc, ◌+◌, ◌<◌, ◌≤◌, Bool, true, false, not, cond, List, [], ◌∷◌, ◌++◌, length, get_or, set, take, drop, refl, sym, ap, subst, ◌∙◌, inl, inr}
 use Rattle.std.specs.Prelude.{slice_get, Some, None}
 use Rattle.std.proofs.lemmas.Bool.{cases_eq}
 use Rattle.std.proofs.lemmas.Option.{slice_get-get_or}
@@ -9,7 +9,7 @@ use Rattle.ground_clauses.specs.declared.clauses.Lit.{Lit}
 use Rattle.clause_solver.specs.Assigning.{is_yes, kind_of, left, lit_false, value_at, value_of, with_lit}
 use Rattle.clause_solver.specs.Trails.{Follow, Grows, IsEntry, IsTrail, blank, values_after}
 use Rattle.clause_solver.specs.declared.assignment.Entry.{Entry}
-use Rattle.clause_solver.specs.declared.assignment.Left.TheVariants.{Nothing, One, Many}
+use Rattle.clause_solver.specs.declared.assignment.Left.TheVariants.{Nothing, Many}
 use Rattle.clause_solver.specs.declared.assignment.Trail.{Trail}
 use Rattle.clause_solver.specs.declared.assignment.Value.{Value}
 use Rattle.clause_solver.specs.declared.assignment.Value.TheVariants.{Open, No, Yes}

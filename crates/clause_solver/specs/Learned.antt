@@ -1,5 +1,5 @@
 -- The rows of clauses and of what was learned from them.
-use Rattle.std.specs.Prelude.{◌≡◌, ℕ, Bool, true, List, [], ◌∷◌, ◌++◌, length}
+use Rattle.std.specs.Prelude.{◌≡◌, true, List, [], ◌∷◌, ◌++◌, length}
 use Rattle.ground_clauses.specs.Derivations.{steps_right}
 use Rattle.ground_clauses.specs.declared.clauses.Cnf.{Cnf}
 use Rattle.ground_clauses.specs.declared.clauses.Lit.{Lit}

@@ -1,5 +1,5 @@
 -- The order in which variables got their values.
-use Rattle.std.specs.Prelude.{◌≡◌, ℕ, ◌<◌, ◌≤◌, Bool, true, false, List, [], ◌∷◌, length, replicate, slice_get, Some}
+use Rattle.std.specs.Prelude.{◌≡◌, ℕ, ◌<◌, ◌≤◌, false, List, [], ◌∷◌, length, replicate, slice_get, Some}
 use mathlib.Core.Logic.{◌≢◌}
 use Rattle.ground_clauses.specs.declared.clauses.Lit.{Lit}
 use Rattle.clause_solver.specs.Assigning.{left, value_at, with_lit}

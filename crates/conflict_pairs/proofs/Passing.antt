@@ -5,7 +5,8 @@ use Rattle.std.specs.List.{AllByRecursion}
 use Rattle.clause_solver.specs.Models.{IsLeastModel}
 use Rattle.conflict_pairs.proofs.Deciding.{IsLocked, decision_clears, model_violates, opposes_locked}
 use Rattle.conflict_pairs.specs.Decisions.{IsDecision, IsHard}
-use Rattle.conflict_pairs.specs.Kinds.{IsFirst, IsStuck, IsViolating, NoneIs, opposing_after, turn_of}
+use Rattle.conflict_pairs.specs.Kinds.{IsFirst, IsStuck, IsViolating, NoneIs}
+use Rattle.conflict_pairs.specs.Turns.{opposing_after, turn_of}
 use Rattle.conflict_pairs.specs.declared.decided.Decided.{Decided}
 use Rattle.conflict_pairs.specs.declared.decided.Decided.TheVariants.{Model, Opposes as opposing, Refuted}
 use Rattle.conflict_pairs.specs.declared.pair_kind.Turn.TheVariants.{Ends, Goes}

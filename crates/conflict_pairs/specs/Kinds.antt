@@ -1,19 +1,14 @@
 -- What two operations do to one another, by their touched cases in canonical order.
-use Rattle.std.specs.Prelude.{◌≡◌, ◌⊎◌, ℕ, Bool, List, [], ◌∷◌, Some, None, Option}
+use Rattle.std.specs.Prelude.{◌≡◌, ◌⊎◌, ℕ, Bool, List, [], ◌∷◌}
 use Rattle.std.specs.List.{AllByRecursion}
 use Rattle.clause_solver.specs.Models.{IsLeastModel}
 use Rattle.conflict_pairs.specs.Decisions.{IsHard}
-use Rattle.conflict_pairs.specs.declared.decided.Decided.{Decided}
-use Rattle.conflict_pairs.specs.declared.decided.Decided.TheVariants.{Model, Opposes as opposing, Refuted}
 use Rattle.conflict_pairs.specs.declared.pair_kind.PairKind.{PairKind}
 use Rattle.conflict_pairs.specs.declared.pair_kind.PairKind.TheVariants.{Violating, Opposing, Free}
-use Rattle.conflict_pairs.specs.declared.pair_kind.Turn.{Turn}
-use Rattle.conflict_pairs.specs.declared.pair_kind.Turn.TheVariants.{Ends, Goes}
 use Rattle.ground_clauses.specs.Cases.{cnf_of, pair_cases}
 use Rattle.ground_clauses.specs.Conflicting.{IsConflicting, IsTouchedCase, Opposes, Violates}
 use Rattle.ground_clauses.specs.declared.case.Case.{Case}
-use Rattle.ground_clauses.specs.declared.case.Target.{Target}
-use Rattle.ground_clauses.specs.declared.case.Target.TheVariants.{Clause as of_clause, Locked as of_pred}
+use Rattle.ground_clauses.specs.declared.case.Target.TheVariants.{Locked as of_pred}
 use Rattle.spec_model.specs.declared.spec.Spec.{Spec}
 
 -- the first element of a list with this property
@@ -53,15 +48,3 @@ pub record IsStuck (spec : Spec) (cases : List Case) (n : ℕ) : Type 0 where
   pub first : IsFirst (λ k. IsHard spec k ⊎ Violates spec k) case cases
   pub hard : IsHard spec case
   pub count : n ≡ (cnf_of spec case).vars
-
--- the first predicate that opposes, once the case of this target is passed, which does
-abbrev pub opposing_after : Option ℕ → Target → Option ℕ
-opposing_after None (of_pred p) = Some p
-opposing_after None (of_clause t) = None
-opposing_after (Some p) t = Some p
-
--- what a case with this target says of its pair: it ends with a model, or the next case is looked at
-abbrev pub turn_of : Option ℕ → Target → Decided → Turn
-turn_of found t (Model m) = Ends m
-turn_of found t (Refuted d) = Goes found
-turn_of found t opposing = Goes (opposing_after found t)

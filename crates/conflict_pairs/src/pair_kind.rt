@@ -2,7 +2,7 @@
 
 ghost use Rattle.std.specs.Prelude.{◌≡◌, ℕ, ◌<◌, ◌≤◌, length, IfOk, Err};
 ghost use Rattle.clause_solver.specs.declared.answer.SolveError.TheVariants as errors;
-ghost use Rattle.conflict_pairs.specs.Kinds as kinds;
+ghost use Rattle.conflict_pairs.specs.Turns as turns;
 ghost use Rattle.conflict_pairs.specs.Kinds.{IsKind, IsStuck};
 ghost use Rattle.ground_clauses.specs.Cases.{pair_cases};
 ghost use Rattle.spec_model.specs.Fits.{IsWellFormed};
@@ -29,7 +29,7 @@ pub enum PairKind {
 
 /// The first predicate that opposes, once a case with this target was passed.
 fn opposing_after(found: Option<u32>, target: Target) -> Option<u32>
-    ensures { result ≡ kinds.opposing_after found target }
+    ensures { result ≡ turns.opposing_after found target }
 {
     match (found, target) {
         (None, Target::Locked(pred)) => Some(pred),
@@ -47,7 +47,7 @@ enum Turn {
 
 /// What a case with this target says of its pair, by what was found of it.
 fn turn_of(opposing: Option<u32>, target: Target, decided: Decided) -> Turn
-    ensures { result ≡ kinds.turn_of opposing target decided }
+    ensures { result ≡ turns.turn_of opposing target decided }
 {
     match decided {
         Decided::Model(model) => Turn::Ends(model),
