@@ -1,5 +1,5 @@
 -- A pair's own reservation separates its conflicting cases.
-use Rattle.std.proofs.Common.{◌≡◌, ◌⊎◌, inl, inr, ℕ, zero, suc, ◌+◌, ◌<◌, Bool, true, false, cond, ◌&&◌, eqb, List, [], ◌∷◌, map, filter, length, refl, sym, ap, subst, ◌∙◌, arith}
+use Rattle.std.proofs.Common.{◌≡◌, ◌⊎◌, inl, inr, ℕ, zero, suc, ◌+◌, ◌<◌, ◌≤◌, Bool, true, false, cond, ◌&&◌, eqb, List, [], ◌∷◌, map, filter, length, get_or, refl, sym, ap, subst, ◌∙◌, arith}
 use Rattle.std.specs.Prelude.{Option, Some, None}
 use Rattle.std.specs.List.{All, AllByRecursion, flat_map, list_all, list_any}
 use Rattle.std.proofs.lemmas.Bool.{and_from, and_parts, eq-eqb, or_left}
@@ -15,11 +15,13 @@ use Rattle.ground_clauses.specs.declared.case.Case.{Case}
 use Rattle.ground_clauses.specs.declared.case.Target.{Target}
 use Rattle.reservation_plan.specs.Conflicts.{is_conflicting}
 use Rattle.reservation_plan.specs.Derived.{always_meets, is_partitioned, key_at, key_of, intervals_match, locks_by, may_meet, pair_of, params_of, parts_by, reservation, with_first}
-use Rattle.reservation_plan.specs.Drafting.{IsKnown}
+use Rattle.reservation_plan.specs.Drafting.{IsConflict, IsKnown}
 use Rattle.reservation_plan.specs.Judging.{case_of}
 use Rattle.reservation_plan.specs.declared.judging.Judged.{Judged}
-use Rattle.spec_model.specs.Fits.{IsWellFormed}
-use Rattle.spec_model.specs.Truths.{op_at, size_of}
+use Rattle.reservation_plan.specs.declared.reserving.Conflict.{Conflict}
+use Rattle.spec_model.specs.Fits.{IsWellFormed, OpFits}
+use Rattle.spec_model.specs.Truths.{no_op, op_at, size_of}
+use Rattle.spec_model.specs.declared.operation.Op.{Op}
 use Rattle.spec_model.specs.declared.plan.Pair.{Pair}
 use Rattle.spec_model.specs.declared.spec.Spec.{Spec}
 
@@ -28,10 +30,24 @@ use Rattle.spec_model.specs.declared.spec.Spec.{Spec}
 cases_known : (spec : Spec) (a b : ℕ) → IsWellFormed spec → a < length spec.ops → b < length spec.ops → AllByRecursion (CaseKnown spec) (pair_cases spec a b)
 cases_known spec a b wf la lb = each_weaker (CaseFits spec) (CaseKnown spec) (pair_cases spec a b) (λ k h. h.known) (pair_known spec a b wf la lb)
 
-pub conflicts_known : (spec : Spec) (a b : ℕ) (ks : List Case) → IsWellFormed spec → a < length spec.ops → b < length spec.ops → ks ≡ filter (is_conflicting spec) (pair_cases spec a b) → All (CaseKnown spec) ks
+conflicts_known : (spec : Spec) (a b : ℕ) (ks : List Case) → IsWellFormed spec → a < length spec.ops → b < length spec.ops → ks ≡ filter (is_conflicting spec) (pair_cases spec a b) → All (CaseKnown spec) ks
 conflicts_known spec a b ks wf la lb is =
     subst (All (CaseKnown spec)) (sym is)
     (All-from_recursion (CaseKnown spec) (filter (is_conflicting spec) (pair_cases spec a b)) (each_filter (CaseKnown spec) (is_conflicting spec) (pair_cases spec a b) (cases_known spec a b wf la lb)))
+
+few_at : (spec : Spec) (ops : List Op) (i : ℕ) → AllByRecursion (OpFits spec) ops → length (get_or ops i no_op).params ≤ 4
+few_at spec [] i h = omega arith
+few_at spec (o ∷ ops) zero h = h.0.few_params
+few_at spec (o ∷ ops) (suc i) h = few_at spec ops i h.1
+
+pub can_reserve : (x : Conflict) → IsWellFormed x.spec.now → x.a < length x.spec.now.ops → x.b < length x.spec.now.ops → x.cases.now ≡ filter (is_conflicting x.spec.now) (pair_cases x.spec.now x.a x.b) → IsConflict x
+can_reserve x wf la lb is = record {
+  known_a = la;
+  known_b = lb;
+  few_a = few_at x.spec.now x.spec.now.ops x.a wf.ops;
+  few_b = few_at x.spec.now x.spec.now.ops x.b wf.ops;
+  cases = conflicts_known x.spec.now x.a x.b x.cases.now wf la lb is;
+}
 
 pub map_each : {X Y : Type 0} (P : Y → Type 0) (f : X → Y) (xs : List X) → AllByRecursion P (map f xs) → AllByRecursion (λ x. P (f x)) xs
 map_each P f [] h = tt

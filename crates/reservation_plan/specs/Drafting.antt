@@ -1,23 +1,32 @@
 -- A plan and its certificate, as pairs of operations are added.
-use Rattle.std.specs.Prelude.{◌≡◌, ℕ, true, if◌then◌else◌, List, [], ◌∷◌, ◌++◌, length, map, flat_map, None}
-use Rattle.std.specs.List.{list_any, find, AllByRecursion, AllZip}
+use Rattle.std.specs.Prelude.{◌≡◌, ℕ, true, if◌then◌else◌, List, [], ◌∷◌, ◌++◌, length, map, flat_map, None, ◌<◌, ◌≤◌}
+use Rattle.std.specs.List.{All, list_any, find, AllByRecursion, AllZip}
 use Rattle.certificate_check.specs.Checks.{FewSteps, line_fits}
 use Rattle.certificate_check.specs.Separation.{lock_fits, part_fits}
 use Rattle.certificate_check.specs.declared.certificate.CertLine.{CertLine}
 use Rattle.certificate_check.specs.declared.certificate.CertLine.TheVariants.{Refuted, SepLock, SepPart}
 use Rattle.ground_clauses.specs.Cases.{CaseKnown, pair_cases}
 use Rattle.ground_clauses.specs.declared.case.Case.{Case}
-use Rattle.reservation_plan.specs.Derived.{derived_plan, locks_at, parts_at}
+use Rattle.reservation_plan.specs.Derived.{derived_plan, locks_at, params_of, parts_at}
 use Rattle.reservation_plan.specs.Ends.{ends}
 use Rattle.reservation_plan.specs.Judging.{IsJudged, case_of}
 use Rattle.reservation_plan.specs.declared.drafting.Draft.{Draft}
 use Rattle.reservation_plan.specs.declared.drafting.Place.{Place}
 use Rattle.reservation_plan.specs.declared.judging.Judged.{Judged}
+use Rattle.reservation_plan.specs.declared.reserving.Conflict.{Conflict}
 use Rattle.reservation_plan.specs.declared.reserving.Reservation.{Reservation}
 use Rattle.reservation_plan.specs.declared.reserving.Reservation.TheVariants.{Lock, Nothing, Part}
 use Rattle.spec_model.specs.declared.plan.LockKind.{LockKind}
 use Rattle.spec_model.specs.declared.plan.Pair.{Pair}
 use Rattle.spec_model.specs.declared.spec.Spec.{Spec}
+
+-- declared operations of few parameters, and cases of declared operations and targets
+pub record IsConflict (c : Conflict) : Type 0 where
+  pub known_a : c.a < length c.spec.now.ops
+  pub known_b : c.b < length c.spec.now.ops
+  pub few_a : length (params_of c.spec.now c.a) ≤ 4
+  pub few_b : length (params_of c.spec.now c.b) ≤ 4
+  pub cases : All (CaseKnown c.spec.now) c.cases.now
 
 abbrev pub locks_in : Reservation → List LockKind
 locks_in Nothing = []

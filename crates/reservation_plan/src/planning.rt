@@ -10,9 +10,8 @@ ghost use Rattle.reservation_plan.specs.Derived.{derived_plan};
 ghost use Rattle.reservation_plan.specs.Drafting.{Drafts};
 ghost use Rattle.reservation_plan.specs.Ends.{HasCause, Refuses, ends};
 ghost use Rattle.reservation_plan.specs.declared.analysed.DeriveError.TheVariants as errors;
-ghost use Rattle.spec_model.specs.Fits.{IsWellFormed, PlanFits, marked_from};
+ghost use Rattle.spec_model.specs.Fits.{InstFits, IsWellFormed, PlanFits, marked_from};
 ghost use Rattle.spec_model.specs.declared.instance.Inst.{Inst};
-ghost use Rattle.spec_model.specs.Fits.{InstFits};
 ghost use Rattle.spec_model.specs.Separated.{Separates};
 ghost use Rattle.spec_model.specs.Stable.{IsStable};
 

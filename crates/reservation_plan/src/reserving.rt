@@ -6,7 +6,7 @@ ghost use Rattle.certificate_check.specs.Separation as separation;
 ghost use Rattle.certificate_check.specs.Separation.{lowest};
 ghost use Rattle.ground_clauses.specs.Cases.{CaseKnown, upto_from};
 ghost use Rattle.reservation_plan.specs.Derived as derived;
-ghost use Rattle.reservation_plan.specs.Drafting.{locks_in, parts_in};
+ghost use Rattle.reservation_plan.specs.Drafting.{IsConflict, locks_in, parts_in};
 ghost use Rattle.spec_model.specs.Truths as truths;
 
 use certificate_check::{pair_meets, shares};
@@ -42,8 +42,7 @@ fn params_of(spec: &Spec, op: u32) -> &[Var]
 
 /// Whether parameters at these places may stand in a key together.
 fn may_meet(conflict: &Conflict<'_>, first: u32, second: u32) -> bool
-    requires known_a { conflict.now.a < length conflict.now.spec.now.ops }
-    requires known_b { conflict.now.b < length conflict.now.spec.now.ops }
+    requires conflict { IsConflict conflict.now }
     requires within_a { first < length (derived.params_of conflict.now.spec.now conflict.now.a) }
     requires within_b { second < length (derived.params_of conflict.now.spec.now conflict.now.b) }
     ensures { result ≡ derived.may_meet conflict.now.spec.now conflict.now.a conflict.now.b first second }
@@ -71,11 +70,9 @@ fn are_equal(spec: &Spec, cases: &[Case], places: &Pair) -> bool
 
 /// Whether parameters at these places belong into the key.
 fn always_meets(conflict: &Conflict<'_>, first: u32, second: u32) -> bool
-    requires known_a { conflict.now.a < length conflict.now.spec.now.ops }
-    requires known_b { conflict.now.b < length conflict.now.spec.now.ops }
+    requires conflict { IsConflict conflict.now }
     requires within_a { first < length (derived.params_of conflict.now.spec.now conflict.now.a) }
     requires within_b { second < length (derived.params_of conflict.now.spec.now conflict.now.b) }
-    requires cases { All (CaseKnown conflict.now.spec.now) conflict.now.cases.now }
     ensures { result ≡ derived.always_meets conflict.now.spec.now conflict.now.a conflict.now.b conflict.now.cases.now first second }
 {
     let places = Pair {
@@ -87,11 +84,8 @@ fn always_meets(conflict: &Conflict<'_>, first: u32, second: u32) -> bool
 
 /// The lowest place of the second operation that always meets this one of the first.
 fn partner(conflict: &Conflict<'_>, first: u32) -> Option<u32>
-    requires known_a { conflict.now.a < length conflict.now.spec.now.ops }
-    requires known_b { conflict.now.b < length conflict.now.spec.now.ops }
+    requires conflict { IsConflict conflict.now }
     requires within { first < length (derived.params_of conflict.now.spec.now conflict.now.a) }
-    requires few { length (derived.params_of conflict.now.spec.now conflict.now.b) ≤ 4 }
-    requires cases { All (CaseKnown conflict.now.spec.now) conflict.now.cases.now }
     ensures { result ≡ lowest (derived.always_meets conflict.now.spec.now conflict.now.a conflict.now.b conflict.now.cases.now first) (upto_from 0 (length (derived.params_of conflict.now.spec.now conflict.now.b))) }
 {
     for second in 0..params_of(conflict.spec, conflict.b).len() as u32 {
@@ -104,11 +98,8 @@ fn partner(conflict: &Conflict<'_>, first: u32) -> Option<u32>
 
 /// Adds a place of the first operation to the key, if it belongs there.
 fn add_place(conflict: &Conflict<'_>, first: u32, key: &mut List<Pair>) -> Result<(), NoMemory>
-    requires known_a { conflict.now.a < length conflict.now.spec.now.ops }
-    requires known_b { conflict.now.b < length conflict.now.spec.now.ops }
+    requires conflict { IsConflict conflict.now }
     requires within { first < length (derived.params_of conflict.now.spec.now conflict.now.a) }
-    requires few { length (derived.params_of conflict.now.spec.now conflict.now.b) ≤ 4 }
-    requires cases { All (CaseKnown conflict.now.spec.now) conflict.now.cases.now }
     ensures { OnOk result (key.new ≡ key.old ++ derived.key_at conflict.now.spec.now conflict.now.a conflict.now.b conflict.now.cases.now first) }
 {
     match partner(conflict, first) {
@@ -122,11 +113,7 @@ fn add_place(conflict: &Conflict<'_>, first: u32, key: &mut List<Pair>) -> Resul
 
 /// The key of two operations.
 fn key_of(alloc: Global, conflict: &Conflict<'_>) -> Result<List<Pair>, NoMemory>
-    requires known_a { conflict.now.a < length conflict.now.spec.now.ops }
-    requires known_b { conflict.now.b < length conflict.now.spec.now.ops }
-    requires few_a { length (derived.params_of conflict.now.spec.now conflict.now.a) ≤ 4 }
-    requires few_b { length (derived.params_of conflict.now.spec.now conflict.now.b) ≤ 4 }
-    requires cases { All (CaseKnown conflict.now.spec.now) conflict.now.cases.now }
+    requires { IsConflict conflict.now }
     ensures { IfOk result (λ key. key ≡ derived.key_of conflict.now.spec.now conflict.now.a conflict.now.b conflict.now.cases.now) }
 {
     let mut key = List::new(alloc);
@@ -177,11 +164,7 @@ fn all_share(cases: &[Case]) -> bool
 
 /// The reservation of two operations.
 pub(crate) fn reserve(alloc: Global, conflict: &Conflict<'_>) -> Result<Reservation, NoMemory>
-    requires known_a { conflict.now.a < length conflict.now.spec.now.ops }
-    requires known_b { conflict.now.b < length conflict.now.spec.now.ops }
-    requires few_a { length (derived.params_of conflict.now.spec.now conflict.now.a) ≤ 4 }
-    requires few_b { length (derived.params_of conflict.now.spec.now conflict.now.b) ≤ 4 }
-    requires cases { All (CaseKnown conflict.now.spec.now) conflict.now.cases.now }
+    requires { IsConflict conflict.now }
     ensures locks { IfOk result (λ r. locks_in r ≡ derived.locks_by conflict.now.spec.now conflict.now.a conflict.now.b conflict.now.cases.now) }
     ensures parts { IfOk result (λ r. parts_in r ≡ derived.parts_by conflict.now.spec.now conflict.now.a conflict.now.b conflict.now.cases.now) }
 {

@@ -1,10 +1,10 @@
 use Rattle.std.proofs.Common.{◌∙◌}
-use Rattle.reservation_plan.proofs.Reserved.{conflicts_known, judged_known}
+use Rattle.reservation_plan.proofs.Reserved.{can_reserve, judged_known}
 use Rattle.reservation_plan.proofs.drafting.Draft.add_pair.Goals as goal
 
-pub reserve-requires-clause-cases : goal.reserve-requires-clause-cases
-reserve-requires-clause-cases c =
-    conflicts_known c.args.spec.now c.args.pair.a c.args.pair.b c.as_slice.result.now c.requires.well_formed c.requires.known_a c.requires.known_b (c.as_slice.ensures.value ∙ c.in_ok-judgements.ensures.ok.conflicts)
+pub reserve-requires : goal.reserve-requires
+reserve-requires c =
+    can_reserve _ c.requires.well_formed c.requires.known_a c.requires.known_b (c.as_slice.ensures.value ∙ c.in_ok-judgements.ensures.ok.conflicts)
 
 pub add_lines-requires : goal.add_lines-requires
 add_lines-requires c =
