@@ -3,6 +3,8 @@ use Rattle.std.proofs.Common.{◌≡◌, ℕ, ◌≤◌, Bool, true, false, cond
 use Rattle.std.specs.Prelude.{not}
 use Rattle.std.specs.List.{AllByRecursion}
 use Rattle.spec_model.specs.declared.plan.Setup.{Setup}
+use Rattle.spec_model.specs.declared.log.Body.{Body}
+use Rattle.spec_model.specs.declared.log.LogItem.{LogItem}
 use Rattle.spec_model.specs.declared.right.Need.{Need}
 use Rattle.spec_model.specs.declared.right.Held.{Held}
 use Rattle.spec_model.specs.declared.right.Want.{Want}
@@ -10,17 +12,19 @@ use Rattle.run_model.specs.declared.message.Message.{Message}
 use Rattle.run_model.specs.declared.step.Outcome.TheVariants as outcomes
 use Rattle.run_model.specs.Logs.{Logs}
 use Rattle.run_model.specs.Rights.{is_met}
-use Rattle.run_model.specs.Worlds.{Standing, holding}
-use Rattle.run_model.specs.Steps.{answered, dropped}
+use Rattle.run_model.specs.Worlds.{Standing, Sending, holding, logged_all}
+use Rattle.run_model.specs.Steps.{accepts_of, answered, dropped, received}
 use Rattle.run_model.specs.Wants.{need_of, still_wanted}
 use Rattle.run_model.specs.Fitting.{WantFits}
 use Rattle.run_model.proofs.Lists.{each_filter, each_weaker}
 use Rattle.run_model.proofs.Agreed.{answered_agree}
-use Rattle.replica_core.specs.Replicas.{HasGiven, HasReceived, HasTaken, IsReplica, KnowsOwn, holds_of, known_to, own_log, standing_of, with_items}
+use Rattle.replica_core.specs.Replicas.{HasLoggedAll, HasTaken, IsReplica, KnowsOwn, holds_of, known_to, own_log, standing_of, with_items}
 use Rattle.replica_core.specs.declared.replica.Replica.{Replica}
 use Rattle.replica_core.proofs.Logged.{all_agree}
 use Rattle.replica_core.proofs.Needed.{heard_replica}
-use Rattle.replica_core.proofs.Taken.{holds_known, knows_both, others_known, own_again}
+use Rattle.replica_core.proofs.Changes.{holds_known, knows_both, longer_by, others_known, own_again}
+use Rattle.replica_core.proofs.Next.{answered_gives, gives_few, gives_for, gives_stamped}
+use Rattle.replica_core.proofs.Received.{HasReceived}
 
 filter_short : {X : Type 0} (p : X → Bool) (xs : List X) → length (filter p xs) ≤ length xs
 filter_short p [] = omega arith
@@ -47,34 +51,78 @@ dropped_own setup mid wants own is =
       each = own.told_each;
     })
 
--- a message was taken
-pub has_taken : (setup : Setup) (message : Message) (old mid new : Replica) (applied accepted gave : ℕ) (wants : List Want) → HasReceived setup message old applied accepted mid → wants ≡ still_wanted (holds_of setup mid) mid.wants
-    → HasGiven setup message.from message.wants (record mid { wants = wants }) gave new → length message.wants ≤ 8 → HasTaken setup message old (outcomes.Took message.number applied accepted gave) new
-has_taken setup message old mid new applied accepted gave wants h is given few =
+-- a replica that has received a message, and then dropped the wants that are met
+pub record Drops (setup : Setup) (message : Message) (old mid left : Replica) (applied : List LogItem) : Type 0 where
+  pub received : HasReceived setup message old applied mid
+  pub wants : List Want
+  pub wants_are : wants ≡ still_wanted (holds_of setup mid) mid.wants
+  pub left_is : left ≡ record mid { wants = wants }
+
+pub left_own : (setup : Setup) (message : Message) (old mid left : Replica) (applied : List LogItem) → Drops setup message old mid left applied → IsReplica setup left.me left
+left_own setup message old mid left applied h = subst (λ (r : Replica). IsReplica setup r.me r) (sym h.left_is) (dropped_own setup mid h.wants (own_again setup old.me mid h.received.own) h.wants_are)
+
+pub left_mine : (setup : Setup) (message : Message) (old mid left : Replica) (applied : List LogItem) → Drops setup message old mid left applied → left.me ≡ old.me
+left_mine setup message old mid left applied h = ap (λ (r : Replica). r.me) h.left_is ∙ h.received.own.me_is
+
+pub left_knows : (setup : Setup) (message : Message) (old mid left : Replica) (applied : List LogItem) → Drops setup message old mid left applied → KnowsOwn (with_items message.from applied (known_to old)) left
+left_knows setup message old mid left applied h = subst (KnowsOwn (with_items message.from applied (known_to old))) (sym h.left_is) h.received.knows
+
+pub left_stands : (setup : Setup) (message : Message) (old mid left : Replica) (applied : List LogItem) (stamp : ℕ) (sendings : List Sending) → Drops setup message old mid left applied
+    → standing_of stamp sendings left ≡ dropped setup (with_items message.from applied (known_to old)) old.me (received old.me message applied (standing_of stamp sendings old))
+left_stands setup message old mid left applied stamp sendings h =
     let me : ℕ = old.me in
-    let left : Replica = record mid { wants = wants } in
-    let mine : mid.me ≡ me = h.own.me_is in
-    let own : IsReplica setup mid.me mid = own_again setup me mid h.own in
-    let left_own : IsReplica setup left.me left = dropped_own setup mid wants own is in
-    let logs : Logs = with_items message.from h.applied (known_to old) in
-    let knows : KnowsOwn logs left = h.knows in
+    let mine : mid.me ≡ me = h.received.own.me_is in
+    let logs : Logs = with_items message.from applied (known_to old) in
+    let p : Standing = standing_of stamp sendings mid in
+    let own : IsReplica setup mid.me mid = own_again setup me mid h.received.own in
+    let same : holds_of setup mid ≡ holding setup logs mid.me p = sym (holds_known setup logs mid stamp sendings own h.received.knows) in
+    ap (standing_of stamp sendings) h.left_is ∙ ap (λ (w : List Want). let r : Standing = record p { wants = w } in r) (h.wants_are ∙ ap (λ (f : Need → Held). still_wanted f mid.wants) same)
+    ∙ ap (λ i. dropped setup logs i p) mine ∙ ap (dropped setup logs me) (h.received.stands stamp sendings)
+
+-- wants are answered by what it knows then as by what was known before
+pub left_answers : (setup : Setup) (message : Message) (old mid left : Replica) (applied : List LogItem) (stamp : ℕ) (sendings : List Sending) → Drops setup message old mid left applied
+    → answered setup (known_to left) left.me message.from message.wants (standing_of stamp sendings left)
+    ≡ answered setup (with_items message.from applied (known_to old)) old.me message.from message.wants (dropped setup (with_items message.from applied (known_to old)) old.me (received old.me message applied (standing_of stamp sendings old)))
+left_answers setup message old mid left applied stamp sendings h =
+    let logs : Logs = with_items message.from applied (known_to old) in
+    let own = left_own setup message old mid left applied h in
+    let knows = left_knows setup message old mid left applied h in
+    answered_agree setup (known_to left) logs left.me message.from message.wants (standing_of stamp sendings left)
+    (all_agree left.me (known_to left) logs (known_to left) (own_log left) (λ j ne. sym (others_known logs left knows j ne)) own.known)
+    ∙ ap (λ i. answered setup logs i message.from message.wants (standing_of stamp sendings left)) (left_mine setup message old mid left applied h)
+    ∙ ap (answered setup logs old.me message.from message.wants) (left_stands setup message old mid left applied stamp sendings h)
+
+-- it gives to each want in turn
+abbrev pub outs_of : Setup → Message → Replica → List Body
+outs_of setup message left = gives_for setup (known_to left) left.me message.from message.wants (standing_of 0 [] left)
+
+-- a message was taken
+pub has_taken : (setup : Setup) (message : Message) (old mid left new : Replica) (applied : List LogItem) → Drops setup message old mid left applied → HasLoggedAll setup (outs_of setup message left) left new → length message.wants ≤ 8
+    → HasTaken setup message old (outcomes.Took message.number (length applied) (length (accepts_of old.me applied)) (length (outs_of setup message left))) new
+has_taken setup message old mid left new applied h given few =
+    let me : ℕ = old.me in
+    let logs : Logs = with_items message.from applied (known_to old) in
+    let mine : left.me ≡ me = left_mine setup message old mid left applied h in
+    let knows = left_knows setup message old mid left applied h in
+    let longer = longer_by setup (outs_of setup message left) left new given in
+    let short = gives_few setup (known_to left) left.me message.from message.wants (standing_of 0 [] left) in
     record {
       own = subst (λ i. IsReplica setup i new) mine given.own;
-      applied = h.applied;
+      applied = applied;
       takes = λ stamp sendings.
-          let p : Standing = standing_of stamp sendings mid in
           let q : Standing = standing_of stamp sendings left in
-          let same : holds_of setup mid ≡ holding setup logs mid.me p = sym (holds_known setup logs mid stamp sendings own h.knows) in
+          let same : outs_of setup message left ≡ gives_for setup (known_to left) left.me message.from message.wants q = sym (gives_stamped setup (known_to left) left.me message.from message.wants (standing_of 0 [] left) stamp sendings) in
+          let before = left_stands setup message old mid left applied stamp sendings h in
           record {
-            gave = gave;
+            gave = length (outs_of setup message left);
             before_answers = q;
-            admitted = h.admitted;
-            before_is = ap (λ (w : List Want). let r : Standing = record p { wants = w } in r) (is ∙ ap (λ (f : Need → Held). still_wanted f mid.wants) same) ∙ ap (λ i. dropped setup logs i p) mine ∙ ap (dropped setup logs me) (h.stands stamp sendings);
-            becomes = given.stands stamp sendings ∙ answered_agree setup (known_to left) logs mid.me message.from message.wants q
-                (all_agree mid.me (known_to left) logs (known_to left) (own_log left) (λ j ne. sym (others_known logs left knows j ne)) left_own.known) ∙ ap (λ i. answered setup logs i message.from message.wants q) mine;
-            gave_is = given.counted;
-            outcome_is = ap (λ n. outcomes.Took message.number n accepted gave) h.counted ∙ ap (λ n. outcomes.Took message.number (length h.applied) n gave) h.accepts;
+            admitted = h.received.admitted;
+            before_is = before;
+            becomes = given.stands stamp sendings ∙ ap (λ (bs : List Body). logged_all left.me bs q) same ∙ sym (answered_gives setup (known_to left) left.me message.from message.wants q) ∙ left_answers setup message old mid left applied stamp sendings h
+                ∙ ap (answered setup logs me message.from message.wants) (sym before);
+            gave_is = longer;
+            outcome_is = refl;
           };
       knows = knows_both logs left new given.own.me_is knows given.knows;
-      grown = omega (arith, h.grown, h.few, given.counted, given.few, few);
+      grown = let left_long : length (own_log left) ≡ length (own_log mid) = ap (λ (r : Replica). length (own_log r)) h.left_is in omega (arith, h.received.grown, h.received.few, longer, short, few, left_long);
     }

@@ -4,10 +4,13 @@ pub mod Logged
 pub mod Begun
 pub mod Wanted
 pub mod Lists
-pub mod Taken
+pub mod Changes
 pub mod Needed
 pub mod Received
+pub mod Next
+pub mod Drafted
 pub mod Finished
+pub mod Committed
 pub mod Showing
 pub mod Sending
 pub mod Holding

@@ -41,7 +41,7 @@ abbrev pub OthersSame : ℕ → Logs → Logs → Type 0
 OthersSame me a b = (j : ℕ) → j ≢ me → log_at a j ≡ log_at b j
 
 -- they agree on what is known of others
-body_agrees : (me : ℕ) (a b known : Logs) (what : Body) → OthersSame me a b → IsKnown known me what → Agrees a b what
+pub body_agrees : (me : ℕ) (a b known : Logs) (what : Body) → OthersSame me a b → IsKnown known me what → Agrees a b what
 body_agrees me a b known (body.Act inst) same h = tt
 body_agrees me a b known (body.Out to r piece) same h = tt
 body_agrees me a b known (body.Accept from at) same h = ap (λ (l : List LogItem). slice_get l at) (same from h.0)
@@ -50,7 +50,7 @@ pub all_agree : (me : ℕ) (a b known : Logs) (own : List LogItem) → OthersSam
 all_agree me a b known own same all = each_weaker (λ (i : LogItem). IsKnown known me i.body) (λ (i : LogItem). Agrees a b i.body) (λ i h. body_agrees me a b known i.body same h) own all
 
 -- what is known of others stays known where their logs are as they were
-known_same : (me : ℕ) (a b : Logs) (what : Body) → OthersSame me a b → IsKnown a me what → IsKnown b me what
+pub known_same : (me : ℕ) (a b : Logs) (what : Body) → OthersSame me a b → IsKnown a me what → IsKnown b me what
 known_same me a b (body.Act inst) same h = tt
 known_same me a b (body.Out to r piece) same h = tt
 known_same me a b (body.Accept from at) same h = (h.0, (let long = ap length (same from h.0) in omega (arith, long, h.1)))

@@ -31,7 +31,7 @@ use Rattle.run_model.proofs.Lists.{each_append, each_weaker}
 use Rattle.replica_core.specs.Tables.{HasNoUpper, NeedFits, low_need}
 use Rattle.replica_core.specs.Replicas.{HasAnswered, HasLogged, IsReplica, holds_of, item_of, known_to, own_log, standing_of}
 use Rattle.replica_core.specs.declared.replica.Replica.{Replica}
-use Rattle.replica_core.proofs.Taken.{set_back}
+use Rattle.replica_core.proofs.Changes.{set_back}
 
 -- ---- needs
 
@@ -59,7 +59,7 @@ low_fits spec inst cell among few = by_test (nat_lt 0 n) few
 high_none : (spec : Spec) (inst : Inst) (cell : Cell) → HasNoUpper spec → escrow_need spec inst (right.High cell) ≡ []
 high_none spec inst cell lower = ap (λ n. cond (nat_lt 0 n) (record { right = right.High cell; amount = amount.Count n } ∷ []) []) (none_raised spec inst cell lower)
 
-each_front : {X : Type 0} (P : X → Type 0) (xs ys : List X) → AllByRecursion P (xs ++ ys) → AllByRecursion P xs × AllByRecursion P ys
+pub each_front : {X : Type 0} (P : X → Type 0) (xs ys : List X) → AllByRecursion P (xs ++ ys) → AllByRecursion P xs × AllByRecursion P ys
 each_front P [] ys h = (tt, h)
 each_front P (x ∷ xs) ys h = let rest = each_front P xs ys h.1 in ((h.0, rest.0), rest.1)
 
@@ -80,7 +80,7 @@ needs_fit spec inst lower few = of_cells (cells spec) (each_among (cells spec)) 
         (of_cells cs among.1 parts.1)
 
 -- the need that is lacking is one of them
-lacking_fits : (P : Need → Type 0) (h : Need → Held) (needs : List Need) (l : Lacking) → AllByRecursion P needs → first_lacking h needs ≡ Some l → P l.need
+pub lacking_fits : (P : Need → Type 0) (h : Need → Held) (needs : List Need) (l : Lacking) → AllByRecursion P needs → first_lacking h needs ≡ Some l → P l.need
 lacking_fits P h [] l all is = absurd cc
 lacking_fits P h (need ∷ needs) l all is = by_test (is_met h need) (λ later. lacking_fits P h needs l all.1 later) is
   where
@@ -147,11 +147,11 @@ heard_replica setup me old new own h = subst (IsReplica setup me) (sym h.is) (re
 -- ---- requests
 
 -- short of a need, which is wanted
-pub answered_short : (setup : Setup) (inst : Inst) (old new : Replica) (l : Lacking) → IsReplica setup old.me old → HasNoUpper setup.spec → AllByRecursion IsFew (escrow_needs setup.spec inst)
+pub answered_short : (setup : Setup) (inst : Inst) (old new : Replica) (l : Lacking) → IsReplica setup old.me old → NeedFits setup.spec l.need
     → Some l ≡ first_lacking (holds_of setup old) (escrow_needs setup.spec inst) → new ≡ record old { wants = noted old.wants (want_of l.need) } → HasAnswered setup inst old (outcomes.Short l) new
-answered_short setup inst old new l own lower few is becomes =
+answered_short setup inst old new l own need is becomes =
     let want : Want = want_of l.need in
-    let fits : WantFits setup.spec want = want_fits setup.spec l.need (lacking_fits (NeedFits setup.spec) (holds_of setup old) (escrow_needs setup.spec inst) l (needs_fit setup.spec inst lower few) (sym is)) in
+    let fits : WantFits setup.spec want = want_fits setup.spec l.need need in
     record {
       own = heard_replica setup old.me old new own (record { wants = noted old.wants want; told = old.told; is = becomes; fit = noted_fit (WantFits setup.spec) old.wants want own.wants fits; few = noted_few old.wants want own.few_wants; whole = own.told; each = own.told_each });
       requests = λ stamp sendings. subst (λ o. Requested old.me inst o (standing_of stamp sendings old) (outcomes.Short l) (standing_of stamp sendings new)) is (refl, ap (standing_of stamp sendings) becomes);

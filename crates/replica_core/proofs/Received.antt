@@ -1,5 +1,5 @@
 -- What a replica applies of a message.
-use Rattle.std.proofs.Common.{◌≡◌, ◌≢◌, inl, inr, ℕ, zero, suc, ◌+◌, ◌-◌, ◌<◌, ◌≤◌, true, false, List, [], ◌∷◌, ◌++◌, length, get_or, map, set, take, drop, refl, sym, ap, subst, ◌∙◌, arith, length-set, ltb-false}
+use Rattle.std.proofs.Common.{◌≡◌, ◌≢◌, inl, inr, ℕ, zero, suc, ◌+◌, ◌-◌, ◌<◌, ◌≤◌, true, false, List, [], ◌∷◌, ◌++◌, length, get_or, map, set, take, drop, refl, sym, ap, subst, ◌∙◌, arith, length-set, length-append, length-drop, ltb-false}
 use Rattle.std.specs.Prelude.{slice_get, slice_index, slice_index_or, slice_set, Some, All, not, nat_lt, sum_by}
 use Rattle.std.specs.List.{AllByRecursion}
 use Rattle.std.proofs.lemmas.List.{get_or-set_same, get_or-set_other, map-set, length-map}
@@ -16,19 +16,19 @@ use Rattle.run_model.specs.declared.message.Message.{Message}
 use Rattle.run_model.specs.Logs.{Logs, item_at, log_at, with_item}
 use Rattle.run_model.specs.Rights.{body_gains}
 use Rattle.run_model.specs.Worlds.{Standing, Sending, joined, logged_all}
-use Rattle.run_model.specs.Steps.{AreAdmitted, accept_of, accepts_of, cut_after}
+use Rattle.run_model.specs.Steps.{AreAdmitted, accept_of, accepts_of, cut_after, received, unseen}
 use Rattle.run_model.specs.Fitting.{AreInRow, ItemFits, MessageFits, WantFits}
 use Rattle.run_model.proofs.Lists.{each_filter, each_take, each_weaker, get_behind}
-use Rattle.run_model.proofs.Own.{applied_one, own_at, own_drop}
+use Rattle.run_model.proofs.Own.{applied_one, own_at, own_drop, own_front, unseen_own}
 use Rattle.run_model.proofs.Agreed.{Agrees, AllAgree, gains_all_agree}
 use Rattle.causal_store.specs.Stores.{IsStore, cut_in}
 use Rattle.causal_delivery.specs.Rows.{AreOfOne}
 use Rattle.replica_core.specs.Tables.{AreHeld}
-use Rattle.replica_core.specs.Replicas.{AreCovered, CanLearn, HasLearned, HasLoggedAll, HasReceived, IsApplied, IsKnown, IsReplica, known_to, own_log, standing_of, with_items}
+use Rattle.replica_core.specs.Replicas.{AreCovered, CanLearn, HasLearned, HasLoggedAll, KnowsOwn, IsKnown, IsReplica, known_to, own_log, standing_of, with_items}
 use Rattle.replica_core.specs.declared.replica.Replica.{Replica}
 use Rattle.replica_core.proofs.Logged.{count_at}
-use Rattle.replica_core.proofs.Needed.{each_dropped, heard_replica}
-use Rattle.replica_core.proofs.Taken.{accept_few, longer_by}
+use Rattle.replica_core.proofs.Needed.{each_dropped, each_front, heard_replica}
+use Rattle.replica_core.proofs.Changes.{accept_few, longer_by}
 
 -- ---- rows of items
 
@@ -64,7 +64,7 @@ row_goes_on from at cut items (x ∷ applied) row admitted =
     ]
 
 -- the cut once a row of items is applied
-cut_applied : (from c : ℕ) (cut : List ℕ) (applied : List LogItem) → AreInRow from c applied → slice_index cut from ≡ c → from < length cut → cut_after cut applied ≡ slice_set cut from (c + length applied)
+pub cut_applied : (from c : ℕ) (cut : List ℕ) (applied : List LogItem) → AreInRow from c applied → slice_index cut from ≡ c → from < length cut → cut_after cut applied ≡ slice_set cut from (c + length applied)
 cut_applied from c cut [] row is lt = sym (set_to (cut) from (c + 0) (omega (arith, is)))
   where
     set_to : (xs : List ℕ) (i x : ℕ) → x ≡ slice_index xs i → set xs i x ≡ xs
@@ -81,6 +81,12 @@ cut_applied from c cut (x ∷ applied) row is lt =
     set_twice [] i x y = refl
     set_twice (z ∷ xs) zero x y = refl
     set_twice (z ∷ xs) (suc i) x y = ap (λ (l : List ℕ). z ∷ l) (set_twice xs i x y)
+
+-- what holds of each item holds of each of one log
+pub each_in_log : (P : LogItem → Type 0) (logs : Logs) (i : ℕ) → AllByRecursion (AllByRecursion P) logs → AllByRecursion P (log_at logs i)
+each_in_log P [] i all = tt
+each_in_log P (log ∷ logs) zero all = all.0
+each_in_log P (log ∷ logs) (suc i) all = each_in_log P logs i all.1
 
 -- ---- what may be applied of a message
 
@@ -107,19 +113,18 @@ pub record IsPart (setup : Setup) (message : Message) (cut : List ℕ) (applied 
   pub fits : AllByRecursion (ItemFits setup.spec setup.replicas) applied
   pub few : length applied ≤ 16
 
-pub part_of : (setup : Setup) (me skip apply : ℕ) (message : Message) (cut : List ℕ) → MessageFits setup.spec setup.replicas me message → AreAdmitted cut message.items (take apply (drop skip message.items)) → skip + apply ≤ length message.items
-    → IsPart setup message cut (take apply (drop skip message.items))
-part_of setup me skip apply message cut fits admitted within =
-    let left : List LogItem = drop skip message.items in record {
-      row = row_goes_on message.from (fits.first + skip) cut message.items (take apply left) (row_taken message.from (fits.first + skip) apply left (own_drop message.from fits.first skip message.items (fits.first + skip) refl fits.row)) admitted;
-      fits = each_take (ItemFits setup.spec setup.replicas) apply left (each_dropped (ItemFits setup.spec setup.replicas) skip message.items fits.items);
-      few = let short = taken_short apply left in omega (arith, short, within, fits.few_items);
+pub part_of : (setup : Setup) (me : ℕ) (message : Message) (cut : List ℕ) (applied : List LogItem) → MessageFits setup.spec setup.replicas me message → AreAdmitted cut message.items applied → IsPart setup message cut applied
+part_of setup me message cut applied fits admitted =
+    let from : ℕ = message.from in
+    let rest : List LogItem = admitted.rest in
+    let n : ℕ = slice_index cut from - fits.first in
+    let is : applied ++ rest ≡ drop n message.items = sym admitted.prefix ∙ unseen_own from (slice_index cut from) fits.first cut message.items fits.row refl in
+    let row : AreInRow from (fits.first + n) (applied ++ rest) = subst (AreInRow from (fits.first + n)) (sym is) (own_drop from fits.first n message.items (fits.first + n) refl fits.row) in
+    record {
+      row = row_goes_on from (fits.first + n) cut message.items applied (own_front from (fits.first + n) applied rest row) admitted;
+      fits = (each_front (ItemFits setup.spec setup.replicas) applied rest (subst (AllByRecursion (ItemFits setup.spec setup.replicas)) (sym is) (each_dropped (ItemFits setup.spec setup.replicas) n message.items fits.items))).0;
+      few = omega (arith, ap length is, length-append applied rest, length-drop n message.items, fits.few_items);
     }
-  where
-    taken_short : (n : ℕ) (xs : List LogItem) → length (take n xs) ≤ n
-    taken_short zero xs = omega arith
-    taken_short (suc n) [] = omega arith
-    taken_short (suc n) (x ∷ xs) = let rest = taken_short n xs in omega (arith, rest)
 
 -- the replica may learn it
 pub can_learn : (setup : Setup) (me : ℕ) (r : Replica) (message : Message) (applied : List LogItem) → IsReplica setup me r → message.from < setup.replicas → IsPart setup message (cut_in r.store) applied → CanLearn setup.spec r applied
@@ -170,7 +175,7 @@ log_longer from origin known applied = longer known from origin applied
     longer : (logs : Logs) (i j : ℕ) (more : List LogItem) → length (log_at logs j) ≤ length (log_at (set logs i (log_at logs i ++ more)) j)
     longer logs i j more = set_longer logs i j (log_at logs i ++ more) (append_longer (log_at logs i) more)
 
-agrees_stays : (me from : ℕ) (known : Logs) (applied : List LogItem) (b : Body) → IsKnown known me b → Agrees known (with_items from applied known) b
+pub agrees_stays : (me from : ℕ) (known : Logs) (applied : List LogItem) (b : Body) → IsKnown known me b → Agrees known (with_items from applied known) b
 agrees_stays me from known applied (body.Act inst) h = tt
 agrees_stays me from known applied (body.Out to r piece) h = tt
 agrees_stays me from known applied (body.Accept origin at) h = item_stays from at origin known applied h.1
@@ -233,26 +238,17 @@ learned_cut setup message me applied old new h sender part =
     append_long [] ys = omega arith
     append_long (x ∷ xs) ys = let rest = append_long xs ys in omega (arith, rest)
 
--- each of them is applied
-pub all_applied : (setup : Setup) (message : Message) (me : ℕ) (applied : List LogItem) (old new : Replica) → Learns setup me message.from applied old new → message.from < setup.replicas → IsPart setup message (cut_in old.store) applied → All (IsApplied new) applied
-all_applied setup message me applied old new h sender part k d lt =
-    let x : LogItem = get_or applied k d in
-    let there : slice_get applied k ≡ Some x = get_there applied k d lt in
-    let place = own_at message.from (slice_index (cut_in old.store) message.from) applied k x part.row there in
-    let mine : new.me ≡ me = ap (λ (r : Replica). r.me) h.kept ∙ h.own.me_is in
-    let log : List LogItem = log_at (known_to old) message.from in
-    let c : slice_index (cut_in old.store) message.from ≡ length log = cut_counts setup.spec setup.replicas old message.from h.own.store in
-    let at : x.index ≡ length log + k = omega (arith, place.1, c) in
-    let lt_known : message.from < length (known_to old) = omega (arith, sender, h.own.store.whole) in (
-      λ same. h.other (sym place.0 ∙ same ∙ mine),
-      ap (λ (l : Logs). item_at l x.origin x.index) h.logs ∙ ap (λ o. item_at (with_items message.from applied (known_to old)) o x.index) place.0
-          ∙ ap (λ (l : List LogItem). slice_get l x.index) (get_or-set_same (known_to old) message.from (log ++ applied) [] lt_known) ∙ ap (slice_get (log ++ applied)) at ∙ get_behind log applied k ∙ there,
-    )
+-- each of them stands at its place
+pub items_placed : (from c : ℕ) (known : Logs) (applied : List LogItem) → AreInRow from c applied → c ≡ length (log_at known from) → from < length known → AllByRecursion (λ x. item_at (with_items from applied known) x.origin x.index ≡ Some x) applied
+items_placed from c known applied row is lt = each_here applied (λ k x there.
+    let place = own_at from c applied k x row there in
+    let log : List LogItem = log_at known from in
+    let at : x.index ≡ length log + k = omega (arith, place.1, is) in
+    ap (λ o. item_at (with_items from applied known) o x.index) place.0 ∙ ap (λ (l : List LogItem). slice_get l x.index) (get_or-set_same known from (log ++ applied) [] lt) ∙ ap (slice_get (log ++ applied)) at ∙ get_behind log applied k ∙ there)
   where
-    get_there : (xs : List LogItem) (k : ℕ) (d : LogItem) → k < length xs → slice_get xs k ≡ Some (get_or xs k d)
-    get_there [] k d lt = absurd (omega (arith, lt))
-    get_there (x ∷ xs) zero d lt = refl
-    get_there (x ∷ xs) (suc k) d lt = get_there xs k d (omega (arith, lt))
+    each_here : {P : LogItem → Type 0} (xs : List LogItem) → ((k : ℕ) (x : LogItem) → slice_get xs k ≡ Some x → P x) → AllByRecursion P xs
+    each_here [] h = tt
+    each_here (x ∷ xs) h = (h 0 x refl, each_here xs (λ k y is. h (suc k) y is))
 
 -- ---- what was received
 
@@ -275,19 +271,15 @@ each_of_all P (x ∷ xs) (suc i) lt all = each_of_all P xs i (omega (arith, lt))
 abbrev pub told_of : Message → Replica → List (List ℕ)
 told_of message r = slice_set r.told message.from (joined (slice_index_or r.told message.from []) message.cut)
 
--- a message was heard, and these of its items may be applied
-pub record Admits (setup : Setup) (me : ℕ) (message : Message) (old mid : Replica) (skip apply : ℕ) (cut : List ℕ) (all items : List LogItem) : Type 0 where
+-- a message was heard, and these of its items are applied
+pub record Admits (setup : Setup) (me : ℕ) (message : Message) (old mid : Replica) (items : List LogItem) : Type 0 where
   pub own : IsReplica setup me old
   pub fits : MessageFits setup.spec setup.replicas me message
   pub heard : mid ≡ record old { told = told_of message old }
-  pub cut_is : cut ≡ cut_in mid.store
-  pub all_are : all ≡ message.items
-  pub admitted : AreAdmitted cut all (take apply (drop skip all))
-  pub within : skip + apply ≤ length all
-  pub items_are : items ≡ take apply (drop skip message.items)
+  pub admitted : AreAdmitted (cut_in old.store) message.items items
 
-pub mid_own : (setup : Setup) (me : ℕ) (message : Message) (old mid : Replica) (skip apply : ℕ) (cut : List ℕ) (all items : List LogItem) → Admits setup me message old mid skip apply cut all items → IsReplica setup me mid
-mid_own setup me message old mid skip apply cut all items h =
+pub mid_own : (setup : Setup) (me : ℕ) (message : Message) (old mid : Replica) (items : List LogItem) → Admits setup me message old mid items → IsReplica setup me mid
+mid_own setup me message old mid items h =
     let lt : message.from < length old.told = omega (arith, h.own.told, h.fits.sender) in
     let here : length (slice_index_or old.told message.from []) ≡ setup.replicas = each_of_all (λ (c : List ℕ). length c ≡ setup.replicas) old.told message.from lt h.own.told_each in
     heard_replica setup me old mid h.own (record {
@@ -300,25 +292,18 @@ mid_own setup me message old mid skip apply cut all items h =
       each = each_set (λ (c : List ℕ). length c ≡ setup.replicas) old.told message.from (joined (slice_index_or old.told message.from []) message.cut) h.own.told_each (joined_whole (slice_index_or old.told message.from []) message.cut setup.replicas here h.fits.cut);
     })
 
-pub mid_admitted : (setup : Setup) (me : ℕ) (message : Message) (old mid : Replica) (skip apply : ℕ) (cut : List ℕ) (all items : List LogItem) → Admits setup me message old mid skip apply cut all items → AreAdmitted (cut_in mid.store) message.items items
-mid_admitted setup me message old mid skip apply cut all items h =
-    let there : AreAdmitted (cut_in mid.store) all (take apply (drop skip all)) = subst (λ (c : List ℕ). AreAdmitted c all (take apply (drop skip all))) h.cut_is h.admitted in
-    let these : AreAdmitted (cut_in mid.store) message.items (take apply (drop skip message.items)) = subst (λ (l : List LogItem). AreAdmitted (cut_in mid.store) l (take apply (drop skip l))) h.all_are there in
-    subst (AreAdmitted (cut_in mid.store) message.items) (sym h.items_are) these
+pub mid_part : (setup : Setup) (me : ℕ) (message : Message) (old mid : Replica) (items : List LogItem) → Admits setup me message old mid items → IsPart setup message (cut_in mid.store) items
+mid_part setup me message old mid items h =
+    let same : cut_in mid.store ≡ cut_in old.store = ap (λ (r : Replica). cut_in r.store) h.heard in
+    subst (λ (c : List ℕ). IsPart setup message c items) (sym same) (part_of setup me message (cut_in old.store) items h.fits h.admitted)
 
-pub mid_part : (setup : Setup) (me : ℕ) (message : Message) (old mid : Replica) (skip apply : ℕ) (cut : List ℕ) (all items : List LogItem) → Admits setup me message old mid skip apply cut all items → IsPart setup message (cut_in mid.store) items
-mid_part setup me message old mid skip apply cut all items h =
-    let these : AreAdmitted (cut_in mid.store) message.items (take apply (drop skip message.items)) = subst (AreAdmitted (cut_in mid.store) message.items) h.items_are (mid_admitted setup me message old mid skip apply cut all items h) in
-    subst (IsPart setup message (cut_in mid.store)) (sym h.items_are) (part_of setup me skip apply message (cut_in mid.store) h.fits these (omega (arith, h.within, ap length h.all_are)))
+pub mid_can : (setup : Setup) (me : ℕ) (message : Message) (old mid : Replica) (items : List LogItem) → Admits setup me message old mid items → CanLearn setup.spec mid items
+mid_can setup me message old mid items h = can_learn setup me mid message items (mid_own setup me message old mid items h) h.fits.sender (mid_part setup me message old mid items h)
 
-pub mid_can : (setup : Setup) (me : ℕ) (message : Message) (old mid : Replica) (skip apply : ℕ) (cut : List ℕ) (all items : List LogItem) → Admits setup me message old mid skip apply cut all items → CanLearn setup.spec mid items
-mid_can setup me message old mid skip apply cut all items h =
-    can_learn setup me mid message items (mid_own setup me message old mid skip apply cut all items h) h.fits.sender (mid_part setup me message old mid skip apply cut all items h)
-
-pub mid_learns : (setup : Setup) (me : ℕ) (message : Message) (old mid new : Replica) (skip apply : ℕ) (cut : List ℕ) (all items : List LogItem) → Admits setup me message old mid skip apply cut all items → HasLearned setup.spec items mid new → Learns setup me message.from items mid new
-mid_learns setup me message old mid new skip apply cut all items h learned =
-    let own = mid_own setup me message old mid skip apply cut all items h in
-    let part = mid_part setup me message old mid skip apply cut all items h in
+pub mid_learns : (setup : Setup) (me : ℕ) (message : Message) (old mid new : Replica) (items : List LogItem) → Admits setup me message old mid items → HasLearned setup.spec items mid new → Learns setup me message.from items mid new
+mid_learns setup me message old mid new items h learned =
+    let own = mid_own setup me message old mid items h in
+    let part = mid_part setup me message old mid items h in
     record {
       own = own;
       other = h.fits.other;
@@ -328,25 +313,24 @@ mid_learns setup me message old mid new skip apply cut all items h learned =
     }
 
 -- at most one thing is accepted of each item
-accepts_few : (me : ℕ) (items : List LogItem) → length (accepts_of me items) ≤ length items
+pub accepts_few : (me : ℕ) (items : List LogItem) → length (accepts_of me items) ≤ length items
 accepts_few me [] = omega arith
-accepts_few me (x ∷ items) = let one = accept_few me x.origin x.index x.body in let rest = accepts_few me items in let both = append_long (accept_of me x.origin x.index x.body) (accepts_of me items) in omega (arith, one, rest, both)
-  where
-    append_long : (xs ys : List Body) → length (xs ++ ys) ≡ length xs + length ys
-    append_long [] ys = omega arith
-    append_long (x ∷ xs) ys = let rest = append_long xs ys in omega (arith, rest)
+accepts_few me (x ∷ items) =
+    let one = accept_few me x.origin x.index x.body in
+    let rest = accepts_few me items in
+    omega (arith, one, rest, length-append (accept_of me x.origin x.index x.body) (accepts_of me items))
 
 -- how it stands once it has heard and learned
-pub learned_stands : (setup : Setup) (message : Message) (old mid new : Replica) (skip apply : ℕ) (cut : List ℕ) (all items : List LogItem) (stamp : ℕ) (sendings : List Sending) → Admits setup old.me message old mid skip apply cut all items → Learns setup old.me message.from items mid new
+pub learned_stands : (setup : Setup) (message : Message) (old mid new : Replica) (items : List LogItem) (stamp : ℕ) (sendings : List Sending) → Admits setup old.me message old mid items → Learns setup old.me message.from items mid new
     → standing_of stamp sendings new ≡ record (standing_of stamp sendings old) { told = told_of message old; cut = cut_after (cut_in old.store) items }
-learned_stands setup message old mid new skip apply cut all items stamp sendings h learns =
+learned_stands setup message old mid new items stamp sendings h learns =
     let me : ℕ = old.me in
     let heard_known : known_to mid ≡ known_to old = ap known_to h.heard in
     let heard_cut : cut_in mid.store ≡ cut_in old.store = ap (λ (r : Replica). cut_in r.store) h.heard in
     let mine : new.me ≡ me = ap (λ (r : Replica). r.me) learns.kept ∙ ap (λ (r : Replica). r.me) h.heard in
     let other : me ≢ message.from = λ same. h.fits.other (sym same) in
     let log : own_log new ≡ own_log old = ap (log_at (known_to new)) mine ∙ ap (λ (l : Logs). log_at l me) learns.logs ∙ get_or-set_other (known_to mid) message.from me (log_at (known_to mid) message.from ++ items) [] other ∙ ap (λ (l : Logs). log_at l me) heard_known in
-    let cut_is : cut_in new.store ≡ cut_after (cut_in old.store) items = learned_cut setup message me items mid new learns h.fits.sender (mid_part setup me message old mid skip apply cut all items h) ∙ ap (λ (c : List ℕ). cut_after c items) heard_cut in
+    let cut_is : cut_in new.store ≡ cut_after (cut_in old.store) items = learned_cut setup message me items mid new learns h.fits.sender (mid_part setup me message old mid items h) ∙ ap (λ (c : List ℕ). cut_after c items) heard_cut in
     let wants : new.wants ≡ old.wants = ap (λ (r : Replica). r.wants) learns.kept ∙ ap (λ (r : Replica). r.wants) h.heard in
     let told : new.told ≡ told_of message old = ap (λ (r : Replica). r.told) learns.kept ∙ ap (λ (r : Replica). r.told) h.heard in
     ap (λ (l : List LogItem). let p : Standing = record (standing_of stamp sendings new) { log = l } in p) log
@@ -354,36 +338,30 @@ learned_stands setup message old mid new skip apply cut all items stamp sendings
     ∙ ap (λ (w : List Want). let p : Standing = record { log = own_log old; cut = cut_after (cut_in old.store) items; stamp = stamp; wants = w; told = new.told; sendings = sendings } in p) wants
     ∙ ap (λ (t : List (List ℕ)). let p : Standing = record { log = own_log old; cut = cut_after (cut_in old.store) items; stamp = stamp; wants = old.wants; told = t; sendings = sendings } in p) told
 
--- and accepted
-pub has_received : (setup : Setup) (message : Message) (old mid learned new : Replica) (skip apply accepted : ℕ) (cut : List ℕ) (all items : List LogItem) → Admits setup old.me message old mid skip apply cut all items → HasLearned setup.spec items mid learned
-    → HasLoggedAll setup (accepts_of learned.me items) learned new → accepted ≡ length (accepts_of learned.me items) → HasReceived setup message old apply accepted new
-has_received setup message old mid learned new skip apply accepted cut all items h learns logged counted =
-    let it = mid_learns setup old.me message old mid learned skip apply cut all items h learns in
-    let part = mid_part setup old.me message old mid skip apply cut all items h in
+-- what may be applied of a message was, and what it gives accepted
+pub record HasReceived (setup : Setup) (message : Message) (old : Replica) (applied : List LogItem) (new : Replica) : Type 0 where
+  pub own : IsReplica setup old.me new
+  pub admitted : AreAdmitted (cut_in old.store) message.items applied
+  pub few : length (accepts_of old.me applied) ≤ 16
+  pub grown : length (own_log new) ≡ length (own_log old) + length (accepts_of old.me applied)
+  pub stands : (stamp : ℕ) (sendings : List Sending) → standing_of stamp sendings new ≡ received old.me message applied (standing_of stamp sendings old)
+  pub knows : KnowsOwn (with_items message.from applied (known_to old)) new
+
+pub has_received : (setup : Setup) (message : Message) (old mid learned new : Replica) (items : List LogItem) → Admits setup old.me message old mid items → HasLearned setup.spec items mid learned
+    → HasLoggedAll setup (accepts_of old.me items) learned new → HasReceived setup message old items new
+has_received setup message old mid learned new items h learns logged =
+    let it = mid_learns setup old.me message old mid learned items h learns in
+    let part = mid_part setup old.me message old mid items h in
     let mine : learned.me ≡ old.me = ap (λ (r : Replica). r.me) it.kept ∙ ap (λ (r : Replica). r.me) h.heard in
-    let mine_new : new.me ≡ learned.me = logged.own.me_is in
     let heard_known : known_to mid ≡ known_to old = ap known_to h.heard in
-    let few = accepts_few learned.me items in
+    let few = accepts_few old.me items in
     let stood : (stamp : ℕ) (sendings : List Sending) → standing_of stamp sendings learned ≡ record (standing_of stamp sendings old) { told = told_of message old; cut = cut_after (cut_in old.store) items } =
-    λ stamp sendings. learned_stands setup message old mid learned skip apply cut all items stamp sendings h it in
+    λ stamp sendings. learned_stands setup message old mid learned items stamp sendings h it in
     record {
       own = subst (λ i. IsReplica setup i new) mine logged.own;
-      applied = items;
-      counted = sym (ap length h.items_are ∙ taken_long apply (drop skip message.items) (let left = dropped_long skip message.items in omega (arith, left, h.within, ap length h.all_are)));
-      admitted = subst (λ (c : List ℕ). AreAdmitted c message.items items) (ap (λ (r : Replica). cut_in r.store) h.heard) (mid_admitted setup old.me message old mid skip apply cut all items h);
-      accepts = counted ∙ ap (λ i. length (accepts_of i items)) mine;
-      few = omega (arith, few, part.few, counted);
-      grown = let longer = longer_by setup (accepts_of learned.me items) learned new logged in let same = ap (λ (p : Standing). length p.log) (stood 0 []) in omega (arith, longer, same, counted);
-      stands = λ stamp sendings. logged.stands stamp sendings ∙ ap (λ i. logged_all i (accepts_of i items) (standing_of stamp sendings learned)) mine ∙ ap (logged_all old.me (accepts_of old.me items)) (stood stamp sendings);
+      admitted = h.admitted;
+      few = omega (arith, few, part.few);
+      grown = let longer = longer_by setup (accepts_of old.me items) learned new logged in let same = ap (λ (p : Standing). length p.log) (stood 0 []) in omega (arith, longer, same);
+      stands = λ stamp sendings. logged.stands stamp sendings ∙ ap (λ i. logged_all i (accepts_of old.me items) (standing_of stamp sendings learned)) mine ∙ ap (logged_all old.me (accepts_of old.me items)) (stood stamp sendings);
       knows = logged.knows ∙ ap (λ (l : Logs). slice_set l new.me (own_log new)) (it.logs ∙ ap (with_items message.from items) heard_known);
     }
-  where
-    dropped_long : (n : ℕ) (xs : List LogItem) → length (drop n xs) ≡ length xs - n
-    dropped_long zero xs = omega arith
-    dropped_long (suc n) [] = omega arith
-    dropped_long (suc n) (x ∷ xs) = let rest = dropped_long n xs in omega (arith, rest)
-
-    taken_long : (n : ℕ) (xs : List LogItem) → n ≤ length xs → length (take n xs) ≡ n
-    taken_long zero xs h = refl
-    taken_long (suc n) [] h = absurd (omega (arith, h))
-    taken_long (suc n) (x ∷ xs) h = let rest = taken_long n xs (omega (arith, h)) in omega (arith, rest)

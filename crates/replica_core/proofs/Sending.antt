@@ -18,13 +18,7 @@ use Rattle.causal_store.specs.Stores.{cut_in}
 use Rattle.replica_core.specs.Replicas.{IsReplica, holds_of, known_to, own_log}
 use Rattle.replica_core.specs.declared.replica.Replica.{Replica}
 use Rattle.replica_core.proofs.Needed.{each_dropped}
-use Rattle.replica_core.proofs.Received.{row_taken}
-
--- what holds of each item holds of each of one log
-pub each_in_log : (P : LogItem → Type 0) (logs : Logs) (i : ℕ) → AllByRecursion (AllByRecursion P) logs → AllByRecursion P (log_at logs i)
-each_in_log P [] i all = tt
-each_in_log P (log ∷ logs) zero all = all.0
-each_in_log P (log ∷ logs) (suc i) all = each_in_log P logs i all.1
+use Rattle.replica_core.proofs.Received.{each_in_log, row_taken}
 
 -- what is still asked for is no more than was asked for
 ask_less_fits : (have : ℕ) (ask : WantAsk) → AskFits ask → AskFits (ask_less (held.Count have) ask)

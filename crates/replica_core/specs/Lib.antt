@@ -1,4 +1,6 @@
 pub mod Tables
 pub mod Replicas
+pub mod Decisions
+pub mod Drafts
 pub mod Shown
 pub mod Laws

@@ -1,5 +1,5 @@
 -- A replica of the code, as the definitions of runs see it.
-use Rattle.std.specs.Prelude.{◌≡◌, ◌≢◌, ℕ, ◌+◌, ◌<◌, ◌≤◌, ◌^◌, List, ◌++◌, length, slice_set, sum_by, Contains, Some}
+use Rattle.std.specs.Prelude.{◌≡◌, ◌≢◌, ℕ, ◌+◌, ◌<◌, ◌≤◌, ◌^◌, List, ◌++◌, length, slice_set, sum_by, Contains}
 use Rattle.std.specs.List.{AllByRecursion}
 use Rattle.spec_model.specs.declared.plan.Setup.{Setup}
 use Rattle.spec_model.specs.declared.spec.Spec.{Spec}
@@ -12,13 +12,12 @@ use Rattle.spec_model.specs.declared.log.LogItem.{LogItem}
 use Rattle.spec_model.specs.Universe.{cells}
 use Rattle.run_model.specs.declared.message.Message.{Message}
 use Rattle.run_model.specs.declared.step.Outcome.{Outcome}
-use Rattle.run_model.specs.Logs.{Logs, item_at, log_at}
+use Rattle.run_model.specs.Logs.{Logs, log_at}
 use Rattle.spec_model.specs.declared.right.Need.{Need}
 use Rattle.spec_model.specs.declared.right.Held.{Held}
 use Rattle.run_model.specs.Rights.{body_gains, body_loses, even_share, first_count, held_of}
 use Rattle.run_model.specs.Worlds.{Standing, Sending, logged, logged_all}
-use Rattle.spec_model.specs.declared.right.Want.{Want}
-use Rattle.run_model.specs.Steps.{AreAdmitted, Requests, Takes, accepts_of, answered, received}
+use Rattle.run_model.specs.Steps.{Requests, Takes}
 use Rattle.run_model.specs.Fitting.{AreInRow, ItemFits, WantFits}
 use Rattle.causal_store.specs.Stores.{IsStore, cut_in, logs_in}
 use Rattle.replica_core.specs.Tables.{AreHeld}
@@ -104,18 +103,6 @@ pub record HasAnswered (setup : Setup) (inst : Inst) (old : Replica) (outcome : 
   pub knows : KnowsOwn (known_to old) new
   pub grown : length (own_log new) ≤ length (own_log old) + 1
 
--- it has applied the item, which is of another log
-abbrev pub IsApplied : Replica → LogItem → Type 0
-IsApplied r item = (item.origin ≢ r.me) × (item_at (known_to r) item.origin item.index ≡ Some item)
-
--- the replica once it has answered these wants in turn, with so many pieces
-pub record HasGiven (setup : Setup) (to : ℕ) (wants : List Want) (old : Replica) (count : ℕ) (new : Replica) : Type 0 where
-  pub own : IsReplica setup old.me new
-  pub stands : (stamp : ℕ) (sendings : List Sending) → standing_of stamp sendings new ≡ answered setup (known_to old) old.me to wants (standing_of stamp sendings old)
-  pub knows : KnowsOwn (known_to old) new
-  pub counted : length (own_log new) ≡ length (own_log old) + count
-  pub few : count ≤ length wants
-
 -- the logs that are known once these items of another log are applied
 abbrev pub with_items : ℕ → List LogItem → Logs → Logs
 with_items from applied known = slice_set known from (log_at known from ++ applied)
@@ -133,18 +120,6 @@ pub record HasLearned (spec : Spec) (items : List LogItem) (old new : Replica) :
   pub kept : new ≡ record old { store = new.store }
   pub store : IsStore spec (length (known_to old)) new.store
   pub logs : (from : ℕ) → AreInRow from (length (log_at (known_to old) from)) items → from < length (known_to old) → known_to new ≡ with_items from items (known_to old)
-
--- what may be applied of a message was, and what it gives accepted: so many items, so many pieces
-pub record HasReceived (setup : Setup) (message : Message) (old : Replica) (count accepted : ℕ) (new : Replica) : Type 0 where
-  pub own : IsReplica setup old.me new
-  pub applied : List LogItem
-  pub counted : count ≡ length applied
-  pub admitted : AreAdmitted (cut_in old.store) message.items applied
-  pub accepts : accepted ≡ length (accepts_of old.me applied)
-  pub few : accepted ≤ 16
-  pub grown : length (own_log new) ≡ length (own_log old) + accepted
-  pub stands : (stamp : ℕ) (sendings : List Sending) → standing_of stamp sendings new ≡ received old.me message applied (standing_of stamp sendings old)
-  pub knows : KnowsOwn (with_items message.from applied (known_to old)) new
 
 -- a message was taken so
 pub record HasTaken (setup : Setup) (message : Message) (old : Replica) (outcome : Outcome) (new : Replica) : Type 0 where

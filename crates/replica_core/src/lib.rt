@@ -1,7 +1,11 @@
 //! One replica: what it has applied, what it holds, and what it decides by itself.
 #![tactic(auto)]
 
+mod decision;
+mod draft;
+mod drafting;
 mod laws;
+mod pieces;
 mod replica;
 mod reports;
 mod requesting;
@@ -10,5 +14,6 @@ mod spending;
 mod taking;
 mod wanting;
 
+pub use decision::{Decision, Taken};
 pub use laws::{firsts_keep_bounds, holds_are_small};
 pub use replica::Replica;

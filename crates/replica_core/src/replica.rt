@@ -1,22 +1,21 @@
 //! A replica of a run.
 
-ghost use Rattle.std.specs.Prelude.{◌≡◌, ◌≢◌, ◌+◌, ◌<◌, ◌≤◌, ◌^◌, ◌++◌, ◌∷◌, [], ℕ, List, IfOk, OnOk, length, replicate, slice_get, slice_set, Contains, Some};
+ghost use Rattle.std.specs.Prelude.{◌≡◌, ◌<◌, ◌≤◌, ◌^◌, ◌++◌, ◌∷◌, [], IfOk, OnOk, length, map, replicate, slice_set, Contains};
 ghost use Rattle.std.specs.List.{AllByRecursion};
 ghost use Rattle.spec_model.specs.Fits.{InstFits, IsWellFormed};
 ghost use Rattle.spec_model.specs.Needs.{spends};
 ghost use Rattle.spec_model.specs.Universe.{cells};
 ghost use Rattle.spec_model.specs.declared.instance.Cell.{Cell as CellOf};
+ghost use Rattle.spec_model.specs.declared.log.Body.{Body as BodyOf};
 ghost use Rattle.spec_model.specs.declared.log.Body.TheVariants as body;
-ghost use Rattle.spec_model.specs.declared.log.LogItem.{LogItem as ItemOf};
-ghost use Rattle.spec_model.specs.declared.right.Piece.TheVariants as piece;
-ghost use Rattle.spec_model.specs.declared.right.Right.TheVariants as right;
+ghost use Rattle.spec_model.specs.declared.right.Right.TheVariants as low;
 ghost use Rattle.run_model.specs.Fitting.{BodyFits};
-ghost use Rattle.run_model.specs.Logs.{item_at};
-ghost use Rattle.run_model.specs.Rights.{held_count};
+ghost use Rattle.run_model.specs.Rights.{held_count, out_gives};
 ghost use Rattle.run_model.specs.Worlds.{first_standing, no_cut};
 ghost use Rattle.causal_store.specs.Stores.{IsStore, cut_in, logs_in};
 
-use crate::rights::{first_rights, gain, held_at, lose};
+use crate::pieces::{gain_out, lose_piece};
+use crate::rights::{first_rights, held_at};
 use crate::spending::spend;
 use causal_store::Store;
 use ind_base::{Cut, List, NoMemory};
@@ -63,7 +62,8 @@ fn nothing_told(alloc: Global, replicas: u32) -> Result<List<Cut>, NoMemory>
 }
 
 impl Replica {
-    ghost use Rattle.replica_core.specs.Replicas.{HasLogged, HasRoom, IsReplica, item_of, known_to, own_log, standing_of};
+    ghost use Rattle.replica_core.specs.Replicas.{HasLogged, HasLoggedAll, HasRoom, IsKnown, IsReplica, item_of, known_to, own_log, standing_of};
+    ghost use Rattle.replica_core.specs.Decisions.{AreNext, IsNext};
 
     /// A replica before its first step.
     pub fn begin(alloc: Global, setup: &Setup, me: u32) -> Result<Replica, NoMemory>
@@ -96,87 +96,120 @@ impl Replica {
         requires own { IsReplica setup.now self.now.me self.now }
         requires fits { Contains (cells setup.now.spec) cell.now }
         requires room { HasRoom 0 self.now }
-        ensures value { result ≡ held_count setup.now (known_to self.now) self.now.me (own_log self.now) (right.Low cell.now) }
+        ensures value { result ≡ held_count setup.now (known_to self.now) self.now.me (own_log self.now) (low.Low cell.now) }
         ensures small { result < 2 ^ 98 }
     {
         held_at(&self.lows, &setup.spec, cell)
     }
 
-    /// Puts an item at the end of its own log.
-    fn log(&mut self, spec: &Spec, body: Body) -> Result<(), NoMemory>
-        requires store { IsStore spec.now (length (known_to self.old)) self.old.store }
-        requires place { self.old.me < length (known_to self.old) }
-        requires fits { BodyFits spec.now body }
-        requires room { HasRoom 1 self.old }
-        ensures kept { OnOk result (self.new ≡ record self.old { store = self.new.store }) }
-        ensures logs { OnOk result (known_to self.new ≡ slice_set (known_to self.old) self.old.me (own_log self.old ++ item_of self.old body ∷ [])) }
-        ensures store { OnOk result (IsStore spec.now (length (known_to self.old)) self.new.store) }
+    /// Its next item, with all that it has seen in its past.
+    pub(crate) fn next(&self, body: Body) -> LogItem
+        requires place { self.now.me < length (known_to self.now) }
+        requires room { HasRoom 0 self.now }
+        ensures { result ≡ item_of self.now body }
     {
-        let index = self.store.log(self.me).len() as u32;
-        let item = LogItem {
+        LogItem {
             origin: self.me,
-            index,
+            index: self.store.log(self.me).len() as u32,
             deps: self.store.cut(),
             body,
-        };
-        self.store.apply(spec, &item)
+        }
+    }
+
+    /// Puts its next item at the end of its own log.
+    fn append(&mut self, spec: &Spec, item: &LogItem) -> Result<(), NoMemory>
+        requires store { IsStore spec.now (length (known_to self.old)) self.old.store }
+        requires place { self.old.me < length (known_to self.old) }
+        requires next { (b : BodyOf) × (item.now ≡ item_of self.old b) × BodyFits spec.now b }
+        requires room { HasRoom 1 self.old }
+        ensures kept { OnOk result (self.new ≡ record self.old { store = self.new.store }) }
+        ensures logs { OnOk result (known_to self.new ≡ slice_set (known_to self.old) self.old.me (own_log self.old ++ item.now ∷ [])) }
+        ensures store { OnOk result (IsStore spec.now (length (known_to self.old)) self.new.store) }
+    {
+        self.store.apply(spec, item)
     }
 
     /// Lets an instance take effect. What it spends is held.
-    pub(crate) fn act(&mut self, setup: &Setup, inst: &Inst) -> Result<(), NoMemory>
+    fn act(&mut self, setup: &Setup, item: &LogItem, inst: &Inst) -> Result<(), NoMemory>
         requires well_formed { IsWellFormed setup.now.spec }
         requires own { IsReplica setup.now self.old.me self.old }
+        requires next { item.now ≡ item_of self.old (body.Act inst.now) }
         requires fits { InstFits setup.now.spec inst.now }
-        requires held { (cell : CellOf) → Contains (cells setup.now.spec) cell → spends setup.now.spec inst.now (right.Low cell) ≤ held_count setup.now (known_to self.old) self.old.me (own_log self.old) (right.Low cell) }
+        requires held { (cell : CellOf) → Contains (cells setup.now.spec) cell → spends setup.now.spec inst.now (low.Low cell) ≤ held_count setup.now (known_to self.old) self.old.me (own_log self.old) (low.Low cell) }
         requires room { HasRoom 1 self.old }
         ensures { OnOk result (HasLogged setup.now (body.Act inst.now) self.old self.new) }
     {
         spend(&mut self.lows, &setup.spec, inst);
-        self.log(&setup.spec, Body::Act(*inst))
+        self.append(&setup.spec, item)
     }
 
-    /// Accepts rights to lower a cell that an item of another replica gave.
-    pub(crate) fn accept(
+    /// Accepts what an item of another replica gave.
+    fn accept(
         &mut self,
         setup: &Setup,
+        item: &LogItem,
         from: u32,
         index: u32,
-        cell: &Cell,
-        count: u64,
     ) -> Result<(), NoMemory>
         requires well_formed { IsWellFormed setup.now.spec }
         requires own { IsReplica setup.now self.old.me self.old }
-        requires other { from ≢ self.old.me }
-        requires fits { Contains (cells setup.now.spec) cell.now }
-        requires given { (out : ItemOf) × (item_at (known_to self.old) from index ≡ Some out) × (out.body ≡ body.Out self.old.me (right.Low cell.now) (piece.Count count)) }
+        requires next { item.now ≡ item_of self.old (body.Accept from index) }
+        requires known { IsKnown (known_to self.old) self.old.me (body.Accept from index) }
         requires room { HasRoom 1 self.old }
         ensures { OnOk result (HasLogged setup.now (body.Accept from index) self.old self.new) }
     {
-        gain(&mut self.lows, &setup.spec, cell, count);
-        self.log(&setup.spec, Body::Accept { from, index })
+        let out = self.store.log(from)[index as usize];
+        gain_out(&mut self.lows, &setup.spec, &out.body);
+        self.append(&setup.spec, item)
     }
 
-    /// Gives rights to lower a cell to another replica. They are held.
-    pub(crate) fn give(
+    /// Gives a piece to another replica. It is held.
+    fn give(
         &mut self,
         setup: &Setup,
+        item: &LogItem,
         to: u32,
-        cell: &Cell,
-        count: u64,
+        right: &Right,
+        piece: &Piece,
     ) -> Result<(), NoMemory>
         requires well_formed { IsWellFormed setup.now.spec }
         requires own { IsReplica setup.now self.old.me self.old }
-        requires fits { Contains (cells setup.now.spec) cell.now }
-        requires held { count ≤ held_count setup.now (known_to self.old) self.old.me (own_log self.old) (right.Low cell.now) }
+        requires next { item.now ≡ item_of self.old (body.Out to right.now piece.now) }
+        requires fits { BodyFits setup.now.spec (body.Out to right.now piece.now) }
+        requires held { (cell : CellOf) → Contains (cells setup.now.spec) cell → out_gives (low.Low cell) (body.Out to right.now piece.now) ≤ held_count setup.now (known_to self.old) self.old.me (own_log self.old) (low.Low cell) }
         requires room { HasRoom 1 self.old }
-        ensures { OnOk result (HasLogged setup.now (body.Out to (right.Low cell.now) (piece.Count count)) self.old self.new) }
+        ensures { OnOk result (HasLogged setup.now (body.Out to right.now piece.now) self.old self.new) }
     {
-        lose(&mut self.lows, &setup.spec, cell, count);
-        let body = Body::Out {
-            to,
-            right: Right::Low(*cell),
-            piece: Piece::Count(count),
-        };
-        self.log(&setup.spec, body)
+        lose_piece(&mut self.lows, &setup.spec, right, piece);
+        self.append(&setup.spec, item)
+    }
+
+    /// Logs its next item.
+    fn put(&mut self, setup: &Setup, item: &LogItem) -> Result<(), NoMemory>
+        requires well_formed { IsWellFormed setup.now.spec }
+        requires own { IsReplica setup.now self.old.me self.old }
+        requires next { IsNext setup.now (known_to self.old) self.old.me (standing_of 0 [] self.old) item.now }
+        requires room { HasRoom 1 self.old }
+        ensures { OnOk result (HasLogged setup.now item.now.body self.old self.new) }
+    {
+        match item.body {
+            Body::Act(inst) => self.act(setup, item, &inst),
+            Body::Accept { from, index } => self.accept(setup, item, from, index),
+            Body::Out { to, right, piece } => self.give(setup, item, to, &right, &piece),
+        }
+    }
+
+    /// Logs its next items, one after the other.
+    pub(crate) fn put_all(&mut self, setup: &Setup, items: &[LogItem]) -> Result<(), NoMemory>
+        requires well_formed { IsWellFormed setup.now.spec }
+        requires own { IsReplica setup.now self.old.me self.old }
+        requires next { AreNext setup.now (known_to self.old) self.old.me (standing_of 0 [] self.old) items.now }
+        requires room { HasRoom (length items.now) self.old }
+        ensures { OnOk result (HasLoggedAll setup.now (map (λ item. item.body) items.now) self.old self.new) }
+    {
+        for item in items {
+            self.put(setup, item)?;
+        }
+        Ok(())
     }
 }

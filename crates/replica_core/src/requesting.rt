@@ -1,7 +1,12 @@
 //! What a replica answers to a request, and what it sends.
 
 ghost use Rattle.std.specs.Prelude.{◌≡◌, ◌≢◌, ◌<◌, ◌≤◌, ◌^◌, All, IfOk, OnOk, length, slice_index, slice_index_or, map, Contains, [], ◌∷◌};
+ghost use Rattle.spec_model.specs.declared.plan.Setup.{Setup as SetupOf};
+ghost use Rattle.spec_model.specs.declared.instance.Inst.{Inst as InstOf};
+ghost use Rattle.spec_model.specs.declared.log.Body.TheVariants as body;
 ghost use Rattle.spec_model.specs.Fits.{InstFits, IsWellFormed};
+ghost use Rattle.run_model.specs.declared.step.Outcome.TheVariants as outcomes;
+ghost use Rattle.replica_core.specs.declared.decision.Decision.TheVariants as decision;
 ghost use Rattle.run_model.specs.Rights.{first_lacking};
 ghost use Rattle.run_model.specs.Steps.{message_of};
 ghost use Rattle.run_model.specs.Fitting.{MessageFits, WantFits};
@@ -9,17 +14,21 @@ ghost use Rattle.run_model.specs.Wants.{noted, want_less, want_of};
 ghost use Rattle.spec_model.specs.Universe.{cells};
 ghost use Rattle.replica_core.specs.Tables.{HasNoUpper, NeedFits, low_need};
 
+use crate::decision::Decision;
 use crate::replica::Replica;
 use crate::wanting::{less, noted as noted_wants};
 use causal_delivery::next_items;
 use effect_model::escrow_needs;
 use ind_base::{List, NoMemory};
-use run_model::{Message, Outcome};
-use spec_model::{Amount, Cell, Held, Inst, Lacking, Level, Need, Right, Setup, Want, WantAsk};
+use run_model::{Batch, Message};
+use spec_model::{
+    Amount, Body, Cell, Held, Inst, Lacking, Level, Need, Right, Setup, Want, WantAsk,
+};
 use std::alloc::Global;
 
 impl Replica {
-    ghost use Rattle.replica_core.specs.Replicas.{HasAnswered, HasRoom, IsReplica, holds_of, known_to, standing_of};
+    ghost use Rattle.replica_core.specs.Replicas.{HasAnswered, HasRoom, IsReplica, holds_of, item_of, known_to, own_log, standing_of};
+    ghost use Rattle.replica_core.specs.Decisions.{Decides};
 
     /// The need of so many rights to lower a cell, if fewer are held.
     fn lacking_low(&self, setup: &Setup, cell: &Cell, count: u64) -> Option<Lacking>
@@ -77,52 +86,71 @@ impl Replica {
         None
     }
 
-    /// Wants what is lacking.
-    fn note(&mut self, alloc: Global, lacking: &Lacking) -> Result<(), NoMemory>
-        requires { length self.old.wants ≤ 8 }
-        ensures { OnOk result (self.new ≡ record self.old { wants = noted self.old.wants (want_of lacking.now.need) }) }
+    /// The batch of an act.
+    fn act_of(&self, alloc: Global, inst: &Inst) -> Result<Batch, NoMemory>
+        requires place { self.now.me < length (known_to self.now) }
+        requires room { HasRoom 0 self.now }
+        ensures { IfOk result (λ batch. batch.items ≡ item_of self.now (body.Act inst.now) ∷ []) }
     {
-        let ask = match &lacking.need.amount {
+        let mut items = List::new(alloc);
+        let _so_far = items.as_slice();
+        items.push(self.next(Body::Act(*inst)))?;
+        Ok(Batch { items })
+    }
+
+    /// What it answers to a request: an act where all that it needs is held, else that it is short of
+    /// the first need that isn't met. Nothing of it is done before it is committed or noted.
+    pub fn request(&self, alloc: Global, setup: &Setup, inst: &Inst) -> Result<Decision, NoMemory>
+        requires well_formed { IsWellFormed setup.now.spec }
+        requires lower { HasNoUpper setup.now.spec }
+        requires own { IsReplica setup.now self.now.me self.now }
+        requires fits { InstFits setup.now.spec inst.now }
+        requires room { HasRoom 1 self.now }
+        ensures { IfOk result (λ decision. Decides setup.now inst.now self.now decision) }
+    {
+        let needs = escrow_needs(alloc, &setup.spec, inst)?;
+        match self.first_lacking(setup, needs.as_slice()) {
+            Some(lacking) => Ok(Decision::Short(lacking)),
+            None => Ok(Decision::Act(self.act_of(alloc, inst)?)),
+        }
+    }
+
+    /// Wants what is needed.
+    fn want(&mut self, alloc: Global, need: &Need) -> Result<(), NoMemory>
+        requires few { length self.old.wants ≤ 8 }
+        ensures { OnOk result (self.new ≡ record self.old { wants = noted self.old.wants (want_of need.now) }) }
+    {
+        let ask = match &need.amount {
             Amount::Count(count) => WantAsk::Count(*count),
             Amount::Level(level) => WantAsk::Level(*level),
             Amount::Points(span) => WantAsk::Points(*span),
             Amount::AnyForbid(_) => WantAsk::Level(Level::Forbid),
         };
         let want = Want {
-            right: lacking.need.right,
+            right: need.right,
             ask,
         };
         self.wants = noted_wants(alloc, self.wants.as_slice(), &want)?;
         Ok(())
     }
 
-    /// Answers a request: done where all that it needs is held, else short of the first need that
-    /// isn't met, which is wanted from then on. A replica that ran out of memory is of no more use.
-    pub fn request(
-        &mut self,
-        alloc: Global,
-        setup: &Setup,
-        inst: &Inst,
-    ) -> Result<Outcome, NoMemory>
-        requires well_formed { IsWellFormed setup.now.spec }
-        requires lower { HasNoUpper setup.now.spec }
-        requires own { IsReplica setup.now self.old.me self.old }
-        requires fits { InstFits setup.now.spec inst.now }
-        requires room { HasRoom 1 self.old }
-        ensures { IfOk result (λ outcome. HasAnswered setup.now inst.now self.old outcome self.new) }
+    /// Wants from now on what it answered that it is short of.
+    pub fn note(&mut self, alloc: Global, lacking: &Lacking) -> Result<(), NoMemory>
+        requires few { length self.old.wants ≤ 8 }
+        ensures { OnOk result ((setup : SetupOf) (inst : InstOf) → IsReplica setup self.old.me self.old → Decides setup inst self.old (decision.Short lacking.now) → HasAnswered setup inst self.old (outcomes.Short lacking.now) self.new) }
     {
-        let needs = escrow_needs(alloc, &setup.spec, inst)?;
-        match self.first_lacking(setup, needs.as_slice()) {
-            Some(lacking) => {
-                self.note(alloc, &lacking)?;
-                Ok(Outcome::Short(lacking))
-            }
-            None => {
-                let index = self.store.log(self.me).len() as u32;
-                self.act(setup, inst)?;
-                Ok(Outcome::Done { index })
-            }
-        }
+        self.want(alloc, &lacking.need)
+    }
+
+    /// Does what it answered to a request. A replica that ran out of memory is of no more use.
+    pub fn commit_act(&mut self, setup: &Setup, batch: &Batch) -> Result<(), NoMemory>
+        requires well_formed { IsWellFormed setup.now.spec }
+        requires own { IsReplica setup.now self.old.me self.old }
+        requires decided { (inst : InstOf) × InstFits setup.now.spec inst × Decides setup.now inst self.old (decision.Act batch.now) }
+        requires room { HasRoom 1 self.old }
+        ensures { OnOk result ((inst : InstOf) → Decides setup.now inst self.old (decision.Act batch.now) → HasAnswered setup.now inst self.old (outcomes.Done (length (own_log self.old))) self.new) }
+    {
+        self.put_all(setup, batch.items.as_slice())
     }
 
     /// How many items of its own log a replica is known to have seen.

@@ -1,25 +1,20 @@
 //! What a replica does with a message.
 
-ghost use Rattle.std.specs.Prelude.{◌≡◌, ◌≢◌, ◌+◌, ◌<◌, ◌≤◌, ◌^◌, ◌++◌, ◌∷◌, [], All, ℕ, List, IfOk, OnOk, length, slice_set, slice_index_or, Contains};
-ghost use Rattle.std.specs.List.{AllByRecursion};
+ghost use Rattle.std.specs.Prelude.{◌≡◌, ◌<◌, ◌++◌, ◌∷◌, [], IfOk, OnOk, length, slice_set, slice_index_or, Contains};
 ghost use Rattle.spec_model.specs.Fits.{IsWellFormed};
-ghost use Rattle.run_model.specs.Fitting.{AreInRow, ItemFits, MessageFits, WantFits};
+ghost use Rattle.run_model.specs.Fitting.{MessageFits, WantFits};
 ghost use Rattle.run_model.specs.Rights.{is_met};
 ghost use Rattle.spec_model.specs.Universe.{cells};
-ghost use Rattle.spec_model.specs.declared.log.Body.TheVariants as body;
-ghost use Rattle.spec_model.specs.declared.right.Right.TheVariants as right;
-ghost use Rattle.spec_model.specs.declared.right.WantAsk.TheVariants as asked;
+ghost use Rattle.run_model.specs.declared.step.Outcome.TheVariants as outcomes;
 ghost use Rattle.replica_core.specs.Tables.{low_need};
-ghost use Rattle.run_model.specs.Steps.{accept_of, accepts_of, given};
-ghost use Rattle.run_model.specs.Wants.{need_of, piece_for, still_wanted};
-ghost use Rattle.run_model.specs.Worlds.{Sending, joined as joined_with, logged_all};
+ghost use Rattle.run_model.specs.Wants.{need_of, still_wanted};
+ghost use Rattle.run_model.specs.Worlds.{joined as joined_with};
 
+use crate::decision::Taken;
 use crate::replica::Replica;
-use crate::wanting::gives;
-use causal_delivery::admit;
 use ind_base::{Cut, List, NoMemory};
-use run_model::{Message, Outcome};
-use spec_model::{Body, Cell, LogItem, Piece, Right, Setup, Spec, Want, WantAsk};
+use run_model::Message;
+use spec_model::{Cell, LogItem, Right, Setup, Spec, Want, WantAsk};
 use std::alloc::Global;
 
 /// The greater count at each place.
@@ -35,7 +30,8 @@ fn joined(a: &Cut, b: &Cut) -> Cut
 }
 
 impl Replica {
-    ghost use Rattle.replica_core.specs.Replicas.{CanLearn, HasGiven, HasLearned, HasLogged, HasLoggedAll, HasRoom, IsApplied, IsReplica, HasReceived, HasTaken, holds_of, known_to};
+    ghost use Rattle.replica_core.specs.Replicas.{CanLearn, HasLearned, HasRoom, HasTaken, IsReplica, holds_of};
+    ghost use Rattle.replica_core.specs.Decisions.{IsTaken};
 
     /// Keeps the greatest cut that was told.
     fn hear(&mut self, message: &Message)
@@ -57,109 +53,6 @@ impl Replica {
             self.store.apply(spec, item)?;
         }
         Ok(())
-    }
-
-    /// Accepts a piece that an applied item gives to this replica.
-    fn accept_piece(
-        &mut self,
-        setup: &Setup,
-        item: &LogItem,
-        right: &Right,
-        piece: &Piece,
-    ) -> Result<(), NoMemory>
-        requires well_formed { IsWellFormed setup.now.spec }
-        requires own { IsReplica setup.now self.old.me self.old }
-        requires fits { ItemFits setup.now.spec setup.now.replicas item.now }
-        requires applied { IsApplied self.old item.now }
-        requires gives { item.now.body ≡ body.Out self.old.me right.now piece.now }
-        requires room { HasRoom 1 self.old }
-        ensures { OnOk result (HasLogged setup.now (body.Accept item.now.origin item.now.index) self.old self.new) }
-    {
-        match right {
-            Right::Low(cell) => match piece {
-                Piece::Count(count) => self.accept(setup, item.origin, item.index, cell, *count),
-                _ => unreachable!(),
-            },
-            _ => unreachable!(),
-        }
-    }
-
-    /// Accepts what an applied item gives, if it is given to this replica. How many were accepted.
-    fn accept_item(&mut self, setup: &Setup, item: &LogItem) -> Result<u32, NoMemory>
-        requires well_formed { IsWellFormed setup.now.spec }
-        requires own { IsReplica setup.now self.old.me self.old }
-        requires fits { ItemFits setup.now.spec setup.now.replicas item.now }
-        requires applied { IsApplied self.old item.now }
-        requires room { HasRoom 1 self.old }
-        ensures logged { OnOk result (HasLoggedAll setup.now (accept_of self.old.me item.now.origin item.now.index item.now.body) self.old self.new) }
-        ensures count { IfOk result (λ n. n ≡ length (accept_of self.old.me item.now.origin item.now.index item.now.body)) }
-    {
-        match item.body {
-            Body::Out { to, right, piece } => {
-                if to == self.me {
-                    self.accept_piece(setup, item, &right, &piece)?;
-                    Ok(1)
-                } else {
-                    Ok(0)
-                }
-            }
-            Body::Act(_) => Ok(0),
-            Body::Accept { .. } => Ok(0),
-        }
-    }
-
-    /// Gives a part of the rights to lower a cell to one who wants so many. How many pieces were
-    /// given.
-    fn give_low(&mut self, setup: &Setup, to: u32, cell: &Cell, count: u64) -> Result<u32, NoMemory>
-        requires well_formed { IsWellFormed setup.now.spec }
-        requires own { IsReplica setup.now self.old.me self.old }
-        requires fits { Contains (cells setup.now.spec) cell.now }
-        requires room { HasRoom 1 self.old }
-        ensures logged { OnOk result (HasLoggedAll setup.now (given (piece_for (holds_of setup.now self.old (low_need cell.now count)) (asked.Count count)) to (right.Low cell.now)) self.old self.new) }
-        ensures count { IfOk result (λ n. n ≡ length (given (piece_for (holds_of setup.now self.old (low_need cell.now count)) (asked.Count count)) to (right.Low cell.now))) }
-    {
-        let gives = gives(count, self.held(setup, cell));
-        if gives == 0 {
-            return Ok(0);
-        }
-        self.give(setup, to, cell, gives)?;
-        Ok(1)
-    }
-
-    /// Gives a part of what is held to one who wants it. How many pieces were given.
-    fn answer_want(&mut self, setup: &Setup, to: u32, want: &Want) -> Result<u32, NoMemory>
-        requires well_formed { IsWellFormed setup.now.spec }
-        requires own { IsReplica setup.now self.old.me self.old }
-        requires fits { WantFits setup.now.spec want.now }
-        requires room { HasRoom 1 self.old }
-        ensures logged { OnOk result (HasLoggedAll setup.now (given (piece_for (holds_of setup.now self.old (need_of want.now)) want.now.ask) to want.now.right) self.old self.new) }
-        ensures count { IfOk result (λ n. n ≡ length (given (piece_for (holds_of setup.now self.old (need_of want.now)) want.now.ask) to want.now.right)) }
-    {
-        match want.right {
-            Right::Low(cell) => match want.ask {
-                WantAsk::Count(count) => self.give_low(setup, to, &cell, count),
-                _ => unreachable!(),
-            },
-            _ => unreachable!(),
-        }
-    }
-
-    /// Accepts what applied items of another log give to this replica. How many were accepted.
-    fn accept_all(&mut self, setup: &Setup, items: &[LogItem]) -> Result<u32, NoMemory>
-        requires well_formed { IsWellFormed setup.now.spec }
-        requires own { IsReplica setup.now self.old.me self.old }
-        requires fits { All (ItemFits setup.now.spec setup.now.replicas) items.now }
-        requires applied { All (IsApplied self.old) items.now }
-        requires few { length items.now ≤ 16 }
-        requires room { HasRoom 16 self.old }
-        ensures logged { OnOk result (HasLoggedAll setup.now (accepts_of self.old.me items.now) self.old self.new) }
-        ensures count { IfOk result (λ n. n ≡ length (accepts_of self.old.me items.now)) }
-    {
-        let mut count = 0;
-        for item in items {
-            count += self.accept_item(setup, item)?;
-        }
-        Ok(count)
     }
 
     /// Whether so many rights to lower a cell are held.
@@ -221,63 +114,33 @@ impl Replica {
         Ok(wants)
     }
 
-    /// Gives to one who wants, want by want, of what is still held. How many pieces were given.
-    fn answer_all(&mut self, setup: &Setup, to: u32, wants: &[Want]) -> Result<u32, NoMemory>
-        requires well_formed { IsWellFormed setup.now.spec }
-        requires own { IsReplica setup.now self.old.me self.old }
-        requires fits { All (WantFits setup.now.spec) wants.now }
-        requires few { length wants.now ≤ 8 }
-        requires room { HasRoom 8 self.old }
-        ensures answered { IfOk result (λ n. HasGiven setup.now to wants.now self.old n self.new) }
-    {
-        let mut count = 0;
-        for want in wants {
-            count += self.answer_want(setup, to, want)?;
-        }
-        Ok(count)
-    }
-
-    /// Hears what the sender has seen, applies the items whose past was seen, and accepts what they
-    /// give. How many were applied, and how many accepted.
-    fn receive(&mut self, setup: &Setup, message: &Message) -> Result<(u32, u32), NoMemory>
-        requires well_formed { IsWellFormed setup.now.spec }
-        requires own { IsReplica setup.now self.old.me self.old }
-        requires fits { MessageFits setup.now.spec setup.now.replicas self.old.me message.now }
-        requires room { HasRoom 16 self.old }
-        ensures { IfOk result (λ n. HasReceived setup.now message.now self.old n.0 n.1 self.new) }
-    {
-        self.hear(message);
-        let admitted = admit(&self.store.cut(), message.items.as_slice());
-        let (_, unseen) = message.items.as_slice().split_at(admitted.skip as usize);
-        let (items, _) = unseen.split_at(admitted.apply as usize);
-        self.learn(&setup.spec, items)?;
-        let accepted = self.accept_all(setup, items)?;
-        Ok((admitted.apply, accepted))
-    }
-
-    /// Takes a message: applies what it may of its items, accepts what they give, drops the wants
-    /// that are met, and gives to the sender of what it wants. A replica that ran out of memory is
-    /// of no more use.
-    pub fn take(
+    /// Does what it decided on a message: hears what the sender has seen, applies and logs the items of
+    /// the batch, and drops the wants that are met once it has accepted. A replica that ran out of
+    /// memory is of no more use.
+    pub fn commit_take(
         &mut self,
         alloc: Global,
         setup: &Setup,
         message: &Message,
-    ) -> Result<Outcome, NoMemory>
+        taken: &Taken,
+    ) -> Result<(), NoMemory>
         requires well_formed { IsWellFormed setup.now.spec }
         requires own { IsReplica setup.now self.old.me self.old }
         requires fits { MessageFits setup.now.spec setup.now.replicas self.old.me message.now }
+        requires decided { IsTaken setup.now message.now self.old taken.now }
         requires room { HasRoom 24 self.old }
-        ensures { IfOk result (λ outcome. HasTaken setup.now message.now self.old outcome self.new) }
+        ensures { OnOk result (HasTaken setup.now message.now self.old (outcomes.Took message.now.number taken.now.applied taken.now.accepted taken.now.gave) self.new) }
     {
-        let (applied, accepted) = self.receive(setup, message)?;
+        let (applied, own) = taken
+            .batch
+            .items
+            .as_slice()
+            .split_at(taken.applied as usize);
+        let (accepts, outs) = own.split_at(taken.accepted as usize);
+        self.hear(message);
+        self.learn(&setup.spec, applied)?;
+        self.put_all(setup, accepts)?;
         self.wants = self.unmet(alloc, setup)?;
-        let gave = self.answer_all(setup, message.from, message.wants.as_slice())?;
-        Ok(Outcome::Took {
-            number: message.number,
-            applied,
-            accepted,
-            gave,
-        })
+        self.put_all(setup, outs)
     }
 }

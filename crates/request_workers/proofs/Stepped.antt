@@ -15,7 +15,7 @@ use Rattle.run_model.specs.Steps.{message_of}
 use Rattle.run_model.specs.Locals.{LocalSteps}
 use Rattle.replica_core.specs.Replicas.{HasAnswered, HasTaken, IsReplica, known_to, own_log, standing_of, with_items}
 use Rattle.replica_core.specs.declared.replica.Replica.{Replica}
-use Rattle.replica_core.proofs.Taken.{set_back}
+use Rattle.replica_core.proofs.Changes.{set_back}
 use Rattle.request_workers.specs.declared.node.Node.{Node}
 use Rattle.request_workers.specs.Nodes.{CanStep, NodeSteps, local_of, sending_of}
 

@@ -9,12 +9,15 @@ ghost use Rattle.run_model.specs.declared.step.Ask.TheVariants as asks;
 ghost use Rattle.run_model.specs.Fitting.{MessageFits};
 ghost use Rattle.run_model.specs.Rights.{held_count};
 ghost use Rattle.causal_store.specs.Stores.{IsShort};
-ghost use Rattle.replica_core.specs.Replicas.{HasRoom, IsReplica, known_to, own_log};
+ghost use Rattle.spec_model.specs.declared.instance.Inst.{Inst as InstOf};
+ghost use Rattle.replica_core.specs.declared.decision.Decision.TheVariants as decision;
+ghost use Rattle.replica_core.specs.Decisions.{Decides};
+ghost use Rattle.replica_core.specs.Replicas.{HasAnswered, HasRoom, HasTaken, IsReplica, known_to, own_log};
 ghost use Rattle.replica_core.specs.Tables.{HasNoUpper};
 
 use ind_base::{List, NoMemory};
-use replica_core::Replica;
-use run_model::{Ask, History, Message, Outcome, StepEntry, push_entry};
+use replica_core::{Decision, Replica};
+use run_model::{Ask, Batch, History, Message, Outcome, StepEntry, push_entry};
 use spec_model::{Inst, Setup};
 use std::alloc::Global;
 
@@ -24,6 +27,66 @@ pub(crate) struct Node {
     pub(crate) replica: Replica,
     pub(crate) stamp: u64,
     pub(crate) entries: List<StepEntry>,
+}
+
+/// Lets an act take effect that a replica decided on.
+fn act(setup: &Setup, replica: &mut Replica, batch: &Batch) -> Result<Outcome, NoMemory>
+    requires well_formed { IsWellFormed setup.now.spec }
+    requires own { IsReplica setup.now replica.old.me replica.old }
+    requires decided { (inst : InstOf) × InstFits setup.now.spec inst × Decides setup.now inst replica.old (decision.Act batch.now) }
+    requires room { HasRoom 1 replica.old }
+    ensures { IfOk result (λ outcome. (inst : InstOf) → Decides setup.now inst replica.old (decision.Act batch.now) → HasAnswered setup.now inst replica.old outcome replica.new) }
+{
+    let index = batch.items.as_slice()[0].index;
+    replica.commit_act(setup, batch)?;
+    Ok(Outcome::Done { index })
+}
+
+/// Answers a request: what the replica decides is done or noted.
+fn answer(
+    alloc: Global,
+    setup: &Setup,
+    replica: &mut Replica,
+    inst: &Inst,
+) -> Result<Outcome, NoMemory>
+    requires well_formed { IsWellFormed setup.now.spec }
+    requires lower { HasNoUpper setup.now.spec }
+    requires own { IsReplica setup.now replica.old.me replica.old }
+    requires fits { InstFits setup.now.spec inst.now }
+    requires room { HasRoom 1 replica.old }
+    ensures { IfOk result (λ outcome. HasAnswered setup.now inst.now replica.old outcome replica.new) }
+{
+    match replica.request(alloc, setup, inst)? {
+        Decision::Breaks(broken) => Ok(Outcome::Breaks(broken)),
+        Decision::Short(lacking) => {
+            replica.note(alloc, &lacking)?;
+            Ok(Outcome::Short(lacking))
+        }
+        Decision::Act(batch) => act(setup, replica, &batch),
+    }
+}
+
+/// Takes a message: what the replica decides is done.
+fn receive(
+    alloc: Global,
+    setup: &Setup,
+    replica: &mut Replica,
+    message: &Message,
+) -> Result<Outcome, NoMemory>
+    requires well_formed { IsWellFormed setup.now.spec }
+    requires own { IsReplica setup.now replica.old.me replica.old }
+    requires fits { MessageFits setup.now.spec setup.now.replicas replica.old.me message.now }
+    requires room { HasRoom 24 replica.old }
+    ensures { IfOk result (λ outcome. HasTaken setup.now message.now replica.old outcome replica.new) }
+{
+    let taken = replica.take(alloc, setup, message)?;
+    replica.commit_take(alloc, setup, message, &taken)?;
+    Ok(Outcome::Took {
+        number: message.number,
+        applied: taken.applied,
+        accepted: taken.accepted,
+        gave: taken.gave,
+    })
 }
 
 impl Node {
@@ -70,7 +133,7 @@ impl Node {
         requires fits { InstFits setup.now.spec inst.now }
         ensures { OnOk result (NodeSteps setup.now (asks.Do inst.now) None [] self.old self.new) }
     {
-        let outcome = self.replica.request(alloc, setup, inst)?;
+        let outcome = answer(alloc, setup, &mut self.replica, inst)?;
         self.note(self.stamp + 1, Ask::Do(*inst), outcome)
     }
 
@@ -122,7 +185,7 @@ impl Node {
         requires stamp { message.now.stamp < 2 ^ 63 }
         ensures { OnOk result (NodeSteps setup.now (asks.Take message.now.from (Some number)) (Some (sending_of message.now)) [] self.old self.new) }
     {
-        let outcome = self.replica.take(alloc, setup, message)?;
+        let outcome = receive(alloc, setup, &mut self.replica, message)?;
         let ask = Ask::Take {
             from: message.from,
             number: Some(number),

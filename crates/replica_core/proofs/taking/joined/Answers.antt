@@ -1,7 +1,7 @@
 use Rattle.std.proofs.Common.{◌++◌, ◌∷◌, [], ◌<◌, ℕ, List, length, take, max, sym, ap, ◌∙◌, arith}
 use Rattle.std.specs.Prelude.{slice_index}
 use Rattle.run_model.specs.Worlds.{joined}
-use Rattle.replica_core.proofs.Taken.{joined_more, joined_short, take_short}
+use Rattle.replica_core.proofs.Changes.{joined_more, joined_short, take_short}
 use Rattle.replica_core.proofs.taking.joined.Goals as goal
 
 pub push-requires : goal.push-requires

@@ -1,17 +1,22 @@
-use Rattle.std.proofs.Common.{◌+◌, ◌*◌, ◌^◌, length, arith}
+use Rattle.std.proofs.Common.{◌+◌, ◌*◌, ◌^◌, ◌++◌, ◌∷◌, [], length, ap, ◌∙◌, arith}
+use Rattle.std.specs.Prelude.{slice_set}
 use Rattle.spec_model.specs.declared.log.Body.TheVariants as body
-use Rattle.replica_core.specs.Replicas.{own_log}
+use Rattle.spec_model.specs.declared.log.LogItem.{LogItem}
+use Rattle.replica_core.specs.Replicas.{known_to, own_log}
 use Rattle.replica_core.proofs.Logged.{logs_one, on_ok_all}
 use Rattle.replica_core.proofs.replica.Replica.act.Goals as goal
+
+pub append-requires-clause-next : goal.append-requires-clause-next
+append-requires-clause-next c = (body.Act c.args.inst.now, c.requires.next, c.requires.fits)
 
 pub returns : goal.returns
 returns c =
     let old = c.args.self.now in
-    on_ok_all c.log.result c.log.ensures.kept c.log.ensures.logs c.log.ensures.store (λ kept logs store.
-    logs_one c.args.setup.now (body.Act c.args.inst.now) old c.log.new.self c.spend.new.counts (record {
+    on_ok_all c.append.result c.append.ensures.kept c.append.ensures.logs c.append.ensures.store (λ kept logs store.
+    logs_one c.args.setup.now (body.Act c.args.inst.now) old c.append.new.self c.spend.new.counts (record {
       own = c.requires.own;
       kept = kept;
-      logs = logs;
+      logs = logs ∙ ap (λ (i : LogItem). slice_set (known_to old) old.me (own_log old ++ i ∷ [])) c.requires.next;
       store = store;
       known = tt;
       long = c.spend.ensures.spends.long;

@@ -4,7 +4,7 @@ use Rattle.run_model.specs.Rights.{first_lacking}
 use Rattle.replica_core.specs.Tables.{NeedFits}
 use Rattle.replica_core.specs.Replicas.{holds_of}
 use Rattle.replica_core.proofs.Lists.{drop_at_item}
-use Rattle.replica_core.proofs.Taken.{lacking_first, lacking_next}
+use Rattle.replica_core.proofs.Changes.{lacking_first, lacking_next}
 use Rattle.replica_core.proofs.replica.Replica.first_lacking.Goals as goal
 
 pub lacking-lacking-requires-clause-fits : goal.lacking-lacking-requires-clause-fits

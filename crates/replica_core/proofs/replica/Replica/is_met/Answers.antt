@@ -1,7 +1,7 @@
 use Rattle.std.proofs.Common.{sym, ap, ◌∙◌}
 use Rattle.run_model.specs.Rights.{is_met}
 use Rattle.replica_core.specs.Replicas.{holds_of}
-use Rattle.replica_core.proofs.Taken.{need_low}
+use Rattle.replica_core.proofs.Changes.{need_low}
 use Rattle.replica_core.proofs.replica.Replica.is_met.Goals as goal
 
 pub returns-in-Count : goal.returns-in-Count

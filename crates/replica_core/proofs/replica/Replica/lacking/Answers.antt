@@ -2,7 +2,7 @@ use Rattle.std.proofs.Common.{sym, ap, ◌∙◌, ◌∷◌, []}
 use Rattle.spec_model.specs.declared.right.Need.{Need}
 use Rattle.run_model.specs.Rights.{first_lacking}
 use Rattle.replica_core.specs.Replicas.{holds_of}
-use Rattle.replica_core.proofs.Taken.{same_need}
+use Rattle.replica_core.proofs.Changes.{same_need}
 use Rattle.replica_core.proofs.replica.Replica.lacking.Goals as goal
 
 pub returns-in-Count : goal.returns-in-Count

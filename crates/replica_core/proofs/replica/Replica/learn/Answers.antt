@@ -2,7 +2,7 @@ use Rattle.std.proofs.Common.{◌+◌, List, take, drop, refl, subst}
 use Rattle.spec_model.specs.declared.log.LogItem.{LogItem}
 use Rattle.replica_core.specs.Replicas.{CanLearn, HasLearned}
 use Rattle.replica_core.specs.declared.replica.Replica.{Replica}
-use Rattle.replica_core.proofs.Taken.{drop_step, learned_more, take_step}
+use Rattle.replica_core.proofs.Changes.{drop_step, learned_more, take_step}
 use Rattle.replica_core.proofs.replica.Replica.learn.Goals as goal
 
 pub loop-item-preserved : goal.loop-item-preserved

@@ -1,26 +1,45 @@
-use Rattle.std.proofs.Common.{List, subst, arith}
+use Rattle.std.proofs.Common.{◌≡◌, ◌≤◌, ◌++◌, List, length, ap, ◌∙◌, subst, arith}
 use Rattle.spec_model.specs.declared.right.Want.{Want}
-use Rattle.replica_core.specs.Replicas.{HasGiven}
-use Rattle.replica_core.specs.declared.replica.Replica.{Replica}
-use Rattle.replica_core.proofs.Taken.{own_again}
-use Rattle.replica_core.proofs.Finished.{dropped_own, has_taken}
+use Rattle.spec_model.specs.declared.log.LogItem.{LogItem}
+use Rattle.replica_core.specs.Drafts.{HasDraftedAnswers}
+use Rattle.replica_core.specs.declared.draft.Draft.{Draft}
+use Rattle.replica_core.proofs.Drafted.{Starts, accepted_draft, is_taken, started, started_few}
 use Rattle.replica_core.proofs.replica.Replica.take.Goals as goal
 
-pub unmet-requires-clause-own : goal.unmet-requires-clause-own
-unmet-requires-clause-own c = own_again c.args.setup.now c.args.self.now.me c.receive.new.self c.in_ok-applied.ensures.own
+pub accept_all-requires-clause-own : goal.accept_all-requires-clause-own
+accept_all-requires-clause-own c =
+    started c.args.setup.now c.args.message.now c.args.self.now c.in_ok-draft.draft (record { own = c.requires.own; fits = c.requires.fits; admitted = c.in_ok-draft.ensures.admitted; none = c.in_ok-draft.ensures.none; cut = c.in_ok-draft.ensures.cut; from = c.in_ok-draft.ensures.from })
 
-pub unmet-requires-clause-room : goal.unmet-requires-clause-room
-unmet-requires-clause-room c = omega (arith, c.in_ok-applied.ensures.grown, c.in_ok-applied.ensures.few, c.requires.room)
+pub accept_all-requires-clause-few : goal.accept_all-requires-clause-few
+accept_all-requires-clause-few c =
+    started_few c.args.setup.now c.args.message.now c.args.self.now c.in_ok-draft.draft (record { own = c.requires.own; fits = c.requires.fits; admitted = c.in_ok-draft.ensures.admitted; none = c.in_ok-draft.ensures.none; cut = c.in_ok-draft.ensures.cut; from = c.in_ok-draft.ensures.from })
 
-pub answer_all-requires-clause-own : goal.answer_all-requires-clause-own
-answer_all-requires-clause-own c =
-    dropped_own c.args.setup.now c.receive.new.self c.in_ok-self.field-0 (own_again c.args.setup.now c.args.self.now.me c.receive.new.self c.in_ok-applied.ensures.own) c.in_ok-self.ensures
+pub answer_all-requires-clause-accepted : goal.answer_all-requires-clause-accepted
+answer_all-requires-clause-accepted c =
+    let h : Starts c.args.setup.now c.args.message.now c.args.self.now c.in_ok-draft.draft = record { own = c.requires.own; fits = c.requires.fits; admitted = c.in_ok-draft.ensures.admitted; none = c.in_ok-draft.ensures.none; cut = c.in_ok-draft.ensures.cut; from = c.in_ok-draft.ensures.from } in
+    accepted_draft c.args.setup.now c.args.message.now c.args.self.now c.in_ok-draft.draft c.accept_all.new.draft h c.in_ok-accept_all.ensures.drafted
 
-pub answer_all-requires-clause-room : goal.answer_all-requires-clause-room
-answer_all-requires-clause-room c = omega (arith, c.in_ok-applied.ensures.grown, c.in_ok-applied.ensures.few, c.requires.room)
+pub answer_all-requires-clause-few : goal.answer_all-requires-clause-few
+answer_all-requires-clause-few c =
+    let few = started_few c.args.setup.now c.args.message.now c.args.self.now c.in_ok-draft.draft (record { own = c.requires.own; fits = c.requires.fits; admitted = c.in_ok-draft.ensures.admitted; none = c.in_ok-draft.ensures.none; cut = c.in_ok-draft.ensures.cut; from = c.in_ok-draft.ensures.from }) in
+    let same = ap (λ (d : Draft). length d.applied) c.in_ok-accept_all.ensures.drafted.kept in
+    omega (arith, few, same)
+
+pub overflow_cast-count : goal.overflow_cast-count
+overflow_cast-count c =
+    let few = started_few c.args.setup.now c.args.message.now c.args.self.now c.in_ok-draft.draft (record { own = c.requires.own; fits = c.requires.fits; admitted = c.in_ok-draft.ensures.admitted; none = c.in_ok-draft.ensures.none; cut = c.in_ok-draft.ensures.cut; from = c.in_ok-draft.ensures.from }) in
+    let same = ap (λ (d : Draft). length d.applied) c.in_ok-accept_all.ensures.drafted.kept in
+    let then' = ap (λ (d : Draft). length d.applied) c.in_ok-answer_all.ensures.kept in
+    omega (arith, few, same, then', c.len-count.ensures.value)
 
 pub returns : goal.returns
 returns c =
-    let left : Replica = record c.receive.new.self { wants = c.in_ok-self.field-0 } in
-    let given = subst (λ (l : List Want). HasGiven c.args.setup.now c.args.message.now.from l left c.in_ok-gave.gave c.answer_all.new.self) c.as_slice.ensures.value c.in_ok-gave.ensures.answered in
-    has_taken c.args.setup.now c.args.message.now c.args.self.now c.receive.new.self c.answer_all.new.self c.in_ok-applied.applied c.in_ok-applied.accepted c.in_ok-gave.gave c.in_ok-self.field-0 c.in_ok-applied.ensures c.in_ok-self.ensures given c.requires.fits.few_wants
+    let message = c.args.message.now in
+    let r = c.args.self.now in
+    let last : Draft = c.answer_all.new.draft in
+    let h : Starts c.args.setup.now message r c.in_ok-draft.draft = record { own = c.requires.own; fits = c.requires.fits; admitted = c.in_ok-draft.ensures.admitted; none = c.in_ok-draft.ensures.none; cut = c.in_ok-draft.ensures.cut; from = c.in_ok-draft.ensures.from } in
+    let answers = subst (λ (l : List Want). HasDraftedAnswers c.args.setup.now r message.from l c.accept_all.new.draft last) c.as_slice.ensures.value c.in_ok-answer_all.ensures in
+    let items : c.extend.new.self ≡ last.applied ++ last.own = c.in_ok-extend.ensures.ok ∙ ap (λ (l : List LogItem). last.applied ++ l) c.as_slice-2.ensures.value in
+    let many = c.len.ensures.value in
+    let accepted = c.len-accepted.ensures.value in
+    is_taken c.args.setup.now message r _ c.in_ok-draft.draft c.accept_all.new.draft last h c.in_ok-accept_all.ensures.drafted answers items c.len-count.ensures.value accepted (omega (arith, many, accepted))

@@ -33,7 +33,7 @@ use Rattle.run_model.proofs.Own.{own_front}
 use Rattle.run_model.proofs.Agreed.{held_agree}
 use Rattle.causal_store.specs.Stores.{IsStore}
 use Rattle.replica_core.specs.Tables.{low_need}
-use Rattle.replica_core.specs.Replicas.{CanLearn, HasGiven, HasLearned, HasLogged, HasLoggedAll, IsApplied, IsReplica, KnowsOwn, holds_of, known_to, own_log, standing_of, with_items}
+use Rattle.replica_core.specs.Replicas.{CanLearn, HasLearned, HasLogged, HasLoggedAll, IsReplica, KnowsOwn, holds_of, known_to, own_log, standing_of, with_items}
 use Rattle.replica_core.specs.declared.replica.Replica.{Replica}
 use Rattle.replica_core.proofs.Logged.{all_agree, OthersSame}
 
@@ -95,7 +95,7 @@ logged_length me (b ∷ bodies) p = let rest = logged_length me bodies (logged m
 pub longer_by : (setup : Setup) (bodies : List Body) (old new : Replica) → HasLoggedAll setup bodies old new → length (own_log new) ≡ length (own_log old) + length bodies
 longer_by setup bodies old new h = ap (λ (p : Standing). length p.log) (h.stands 0 []) ∙ logged_length old.me bodies (standing_of 0 [] old)
 
-logged_append : (me : ℕ) (bs cs : List Body) (p : Standing) → logged_all me (bs ++ cs) p ≡ logged_all me cs (logged_all me bs p)
+pub logged_append : (me : ℕ) (bs cs : List Body) (p : Standing) → logged_all me (bs ++ cs) p ≡ logged_all me cs (logged_all me bs p)
 logged_append me [] cs p = refl
 logged_append me (b ∷ bs) cs p = logged_append me bs cs (logged me b p)
 
@@ -161,13 +161,6 @@ accept_few me origin index (body.Out to r pc) = few (to == me)
     few true = omega arith
     few false = omega arith
 accept_few me origin index (body.Accept from at) = omega arith
-
--- what was applied stays so as the replica logs items of its own
-pub applied_later : (setup : Setup) (bodies : List Body) (old new : Replica) (item : LogItem) → HasLoggedAll setup bodies old new → IsApplied old item → IsApplied new item
-applied_later setup bodies old new item h a =
-    let me : new.me ≡ old.me = h.own.me_is in
-    let other : item.origin ≢ new.me = λ same. a.0 (same ∙ me) in
-    (other, ap (λ (logs : Logs). item_at logs item.origin item.index) h.knows ∙ ap (λ (l : List LogItem). slice_get l item.index) (get_or-set_other (known_to old) new.me item.origin (own_log new) [] other) ∙ a.1)
 
 -- ---- items of another log
 
@@ -236,7 +229,7 @@ take_step (y ∷ items) (suc k) x lt is = ap (λ (zs : List LogItem). y ∷ zs) 
 
 -- ---- answers to wants
 
-answered_append : (setup : Setup) (logs : Logs) (me to : ℕ) (front : List Want) (w : Want) (p : Standing) → answered setup logs me to (front ++ w ∷ []) p ≡ answered setup logs me to (w ∷ []) (answered setup logs me to front p)
+pub answered_append : (setup : Setup) (logs : Logs) (me to : ℕ) (front : List Want) (w : Want) (p : Standing) → answered setup logs me to (front ++ w ∷ []) p ≡ answered setup logs me to (w ∷ []) (answered setup logs me to front p)
 answered_append setup logs me to [] w p = refl
 answered_append setup logs me to (v ∷ front) w p = answered_append setup logs me to front w (logged_all me (given (piece_for (holding setup logs me p (need_of v)) v.ask) to v.right) p)
 
@@ -253,29 +246,6 @@ holds_known setup known new stamp sendings own knows =
 pub given_few : (o : Option Piece) (to : ℕ) (r : Right) → length (given o to r) ≤ 1
 given_few None to r = omega arith
 given_few (Some pc) to r = omega arith
-
--- nothing is given at first
-pub given_nothing : (setup : Setup) (to : ℕ) (r : Replica) → IsReplica setup r.me r → HasGiven setup to [] r 0 r
-given_nothing setup to r own = let h = logged_nothing setup r own in record { own = own; stands = λ stamp sendings. refl; knows = h.knows; counted = omega arith; few = omega arith }
-
--- one want more was answered
-pub given_more : (setup : Setup) (to : ℕ) (front : List Want) (w : Want) (old mid new : Replica) (count n : ℕ) → HasGiven setup to front old count mid
-    → HasLoggedAll setup (given (piece_for (holds_of setup mid (need_of w)) w.ask) to w.right) mid new → n ≡ length (given (piece_for (holds_of setup mid (need_of w)) w.ask) to w.right) → HasGiven setup to (front ++ w ∷ []) old (count + n) new
-given_more setup to front w old mid new count n first second is =
-    let me : mid.me ≡ old.me = first.own.me_is in
-    let bodies : List Body = given (piece_for (holds_of setup mid (need_of w)) w.ask) to w.right in
-    record {
-      own = subst (λ i. IsReplica setup i new) me second.own;
-      stands = λ stamp sendings.
-          let q : Standing = standing_of stamp sendings mid in
-          let same : holding setup (known_to old) old.me q ≡ holds_of setup mid = ap (λ i. holding setup (known_to old) i q) (sym me) ∙ holds_known setup (known_to old) mid stamp sendings (own_again setup old.me mid first.own) first.knows in
-          second.stands stamp sendings ∙ ap (λ i. logged_all i bodies q) me
-          ∙ ap (λ (f : Need → Held). logged_all old.me (given (piece_for (f (need_of w)) w.ask) to w.right) q) (sym same)
-          ∙ ap (answered setup (known_to old) old.me to (w ∷ [])) (first.stands stamp sendings) ∙ sym (answered_append setup (known_to old) old.me to front w (standing_of stamp sendings old));
-      knows = knows_both (known_to old) mid new second.own.me_is first.knows second.knows;
-      counted = let long = longer_by setup bodies mid new second in omega (arith, long, first.counted, is);
-      few = let one = given_few (piece_for (holds_of setup mid (need_of w)) w.ask) to w.right in omega (arith, one, is, first.few, length_push front w);
-    }
 
 -- ---- lists of needs and wants
 

@@ -1,0 +1,217 @@
+-- What was decided is done once its batch is committed.
+use Rattle.std.proofs.Common.{◌≡◌, ◌≢◌, ℕ, zero, suc, ◌+◌, ◌<◌, ◌≤◌, ◌^◌, List, [], ◌∷◌, ◌++◌, length, map, take, drop, refl, sym, ap, subst, ◌∙◌, arith, length-append, length-take}
+use Rattle.std.specs.Prelude.{Some, None, slice_get, slice_index, Result, Ok, Err, OnOk, Contains}
+use Rattle.std.specs.List.{AllByRecursion}
+use Rattle.std.proofs.lemmas.List.{append_assoc, append_cancel_left}
+use Rattle.std.proofs.lemmas.Option.{slice_get_within}
+use Rattle.spec_model.specs.declared.plan.Setup.{Setup}
+use Rattle.spec_model.specs.declared.instance.Inst.{Inst}
+use Rattle.spec_model.specs.declared.right.Right.TheVariants as right
+use Rattle.spec_model.specs.declared.log.Body.{Body}
+use Rattle.spec_model.specs.declared.log.Body.TheVariants as body
+use Rattle.spec_model.specs.declared.log.LogItem.{LogItem}
+use Rattle.spec_model.specs.Fits.{InstFits}
+use Rattle.run_model.specs.declared.batch.Batch.{Batch}
+use Rattle.run_model.specs.declared.message.Message.{Message}
+use Rattle.run_model.specs.declared.step.Outcome.{Outcome}
+use Rattle.run_model.specs.declared.step.Outcome.TheVariants as outcomes
+use Rattle.run_model.specs.Logs.{Logs, item_at, log_at}
+use Rattle.run_model.specs.Worlds.{Standing, logged_all}
+use Rattle.run_model.specs.Steps.{AreAdmitted, accepts_of, answered, cut_after, dropped, received}
+use Rattle.run_model.specs.Fitting.{AreInRow, MessageFits}
+use Rattle.run_model.proofs.Escrow.{spends_held}
+use Rattle.run_model.proofs.Lists.{each_at, each_weaker}
+use Rattle.causal_store.specs.Stores.{cut_in}
+use Rattle.replica_core.specs.Replicas.{HasAnswered, HasLearned, HasLoggedAll, HasTaken, IsKnown, IsReplica, item_of, known_to, own_log, standing_of, with_items}
+use Rattle.replica_core.specs.Decisions.{AreNext, Decides, IsTaken}
+use Rattle.replica_core.specs.declared.decision.Decision.TheVariants as decision
+use Rattle.replica_core.specs.declared.decision.Taken.{Taken}
+use Rattle.replica_core.specs.declared.replica.Replica.{Replica}
+use Rattle.replica_core.proofs.Finished.{Drops, has_taken, left_answers, left_mine, left_own, left_stands, outs_of}
+use Rattle.replica_core.proofs.Needed.{answered_done}
+use Rattle.replica_core.proofs.Next.{accepts_free, answered_gives, bodies_back, free_next, gives_few, gives_for, gives_next, items_for, items_long, logged_items}
+use Rattle.replica_core.proofs.Received.{Admits, Learns, accepts_few, cut_counts, items_placed, learned_stands, part_of, told_of}
+
+-- what follows where a call succeeded
+pub on_ok_then : {T E P Q : Type 0} (r : Result T E) → OnOk r P → (P → Q) → OnOk r Q
+on_ok_then (Ok x) h f = f h
+on_ok_then (Err e) h f = tt
+
+front_of : {X : Type 0} (xs ys : List X) (n : ℕ) → n ≡ length xs → take n (xs ++ ys) ≡ xs
+front_of [] ys zero is = refl
+front_of [] ys (suc n) is = absurd (omega (arith, is))
+front_of (x ∷ xs) ys zero is = absurd (omega (arith, is))
+front_of {X} (x ∷ xs) ys (suc n) is = ap (λ (l : List X). x ∷ l) (front_of xs ys n (omega (arith, is)))
+
+back_of : {X : Type 0} (xs ys : List X) (n : ℕ) → n ≡ length xs → drop n (xs ++ ys) ≡ ys
+back_of [] ys zero is = refl
+back_of [] ys (suc n) is = absurd (omega (arith, is))
+back_of (x ∷ xs) ys zero is = absurd (omega (arith, is))
+back_of (x ∷ xs) ys (suc n) is = back_of xs ys n (omega (arith, is))
+
+-- ---- an act
+
+pub act_next : (setup : Setup) (r : Replica) (inst : Inst) (batch : Batch) (items : List LogItem) → InstFits setup.spec inst → Decides setup inst r (decision.Act batch) → items ≡ batch.items → AreNext setup (known_to r) r.me (standing_of 0 [] r) items
+act_next setup r inst batch items fits decides is =
+    subst (AreNext setup (known_to r) r.me (standing_of 0 [] r)) (sym (is ∙ decides.1)) (
+      record {
+        is = refl;
+        fits = fits;
+        known = tt;
+        enough = λ cell among. spends_held setup (known_to r) r.me (standing_of 0 [] r) inst (right.Low cell) among decides.0;
+      },
+      tt,
+    )
+
+pub act_done : (setup : Setup) (old new : Replica) (inst : Inst) (batch : Batch) (items : List LogItem) → Decides setup inst old (decision.Act batch) → items ≡ batch.items → HasLoggedAll setup (map (λ (i : LogItem). i.body) items) old new
+    → HasAnswered setup inst old (outcomes.Done (length (own_log old))) new
+act_done setup old new inst batch items decides is h =
+    let logged : HasLoggedAll setup (body.Act inst ∷ []) old new = subst (λ (l : List LogItem). HasLoggedAll setup (map (λ (i : LogItem). i.body) l) old new) (is ∙ decides.1) h in
+    answered_done setup inst old new (length (own_log old)) refl (sym decides.0) (record { own = logged.own; stands = logged.stands; knows = logged.knows })
+
+-- ---- a take
+
+-- how it stands once it has heard and applied
+abbrev pub start_of : Message → Replica → List LogItem → Standing
+start_of message r applied = record (standing_of 0 [] r) { told = told_of message r; cut = cut_after (cut_in r.store) applied }
+
+-- how it stands before it answers
+abbrev pub before_of : Setup → Message → Replica → List LogItem → Standing
+before_of setup message r applied = dropped setup (with_items message.from applied (known_to r)) r.me (received r.me message applied (standing_of 0 [] r))
+
+-- the batch of a take, cut into its three parts
+pub record Splits (setup : Setup) (message : Message) (r : Replica) (taken : Taken) (front accepts outs : List LogItem) : Type 0 where
+  pub own : IsReplica setup r.me r
+  pub fits : MessageFits setup.spec setup.replicas r.me message
+  pub decided : IsTaken setup message r taken
+  pub front_is : front ≡ take taken.applied taken.batch.items
+  pub accepts_are : accepts ≡ take taken.accepted (drop taken.applied taken.batch.items)
+  pub outs_are : outs ≡ drop taken.accepted (drop taken.applied taken.batch.items)
+
+-- the parts by their meaning
+pub record Parts (setup : Setup) (message : Message) (r : Replica) (taken : Taken) (front accepts outs : List LogItem) : Type 0 where
+  pub admitted : AreAdmitted (cut_in r.store) message.items front
+  pub applied_is : taken.applied ≡ length front
+  pub accepted_is : taken.accepted ≡ length (accepts_of r.me front)
+  pub gave_is : taken.gave ≡ length outs
+  pub accepts_are : accepts ≡ items_for r.me (accepts_of r.me front) (start_of message r front)
+  pub outs_end : (answered setup (with_items message.from front (known_to r)) r.me message.from message.wants (before_of setup message r front)).log ≡ (before_of setup message r front).log ++ outs
+
+pub parts_of : (setup : Setup) (message : Message) (r : Replica) (taken : Taken) (front accepts outs : List LogItem) → Splits setup message r taken front accepts outs → Parts setup message r taken front accepts outs
+parts_of setup message r taken front accepts outs h =
+    let me : ℕ = r.me in
+    let t = h.decided in
+    let applied : List LogItem = t.applied in
+    let logs : Logs = with_items message.from applied (known_to r) in
+    let before : Standing = before_of setup message r applied in
+    let bodies : List Body = accepts_of me applied in
+    let a : List LogItem = items_for me bodies (start_of message r applied) in
+    let after : Standing = answered setup logs me message.from message.wants before in
+    let after_is : t.after ≡ after = t.takes.becomes ∙ ap (answered setup logs me message.from message.wants) t.takes.before_is in
+    let before_log : before.log ≡ own_log r ++ a = logged_items me bodies (start_of message r applied) in
+    let counts = same_took message.number taken.applied taken.accepted taken.gave message.number (length applied) (length bodies) t.takes.gave t.takes.outcome_is in
+    let outs_log : after.log ≡ before.log ++ drop (length a) t.own = ends setup logs me message before (own_log r) a t.own before_log (sym (ap (λ (p : Standing). p.log) after_is) ∙ t.longer) in
+    let own_is : t.own ≡ a ++ drop (length a) t.own =
+    append_cancel_left (own_log r) t.own (a ++ drop (length a) t.own) (sym t.longer ∙ ap (λ (p : Standing). p.log) after_is ∙ outs_log ∙ ap (λ (l : List LogItem). l ++ drop (length a) t.own) before_log ∙ append_assoc (own_log r) a (drop (length a) t.own)) in
+    let many : length a ≡ length bodies = items_long me bodies (start_of message r applied) in
+    let front_same : front ≡ applied = h.front_is ∙ ap (take taken.applied) t.batch ∙ front_of applied t.own taken.applied counts.0 in
+    let behind : drop taken.applied taken.batch.items ≡ t.own = ap (drop taken.applied) t.batch ∙ back_of applied t.own taken.applied counts.0 in
+    let accepts_same : accepts ≡ a = h.accepts_are ∙ ap (take taken.accepted) (behind ∙ own_is) ∙ front_of a (drop (length a) t.own) taken.accepted (counts.1 ∙ sym many) in
+    let outs_same : outs ≡ drop (length a) t.own = h.outs_are ∙ ap (drop taken.accepted) (behind ∙ own_is) ∙ back_of a (drop (length a) t.own) taken.accepted (counts.1 ∙ sym many) in
+    let gave : length after.log ≡ length before.log + t.takes.gave = sym (ap (λ (p : Standing). length p.log) after_is) ∙ t.takes.gave_is ∙ ap (λ (p : Standing). length p.log + t.takes.gave) t.takes.before_is in
+    let done : Parts setup message r taken applied a (drop (length a) t.own) = record {
+      admitted = t.takes.admitted;
+      applied_is = counts.0;
+      accepted_is = counts.1;
+      gave_is = omega (arith, counts.2, gave, ap length outs_log, length-append before.log (drop (length a) t.own));
+      accepts_are = refl;
+      outs_end = outs_log;
+    } in
+    subst (λ (l : List LogItem). Parts setup message r taken l accepts outs) (sym front_same) (subst (λ (l : List LogItem). Parts setup message r taken applied l outs) (sym accepts_same) (subst (Parts setup message r taken applied a) (sym outs_same) done))
+  where
+    same_took : (m a b g n x y z : ℕ) → outcomes.Took m a b g ≡ outcomes.Took n x y z → (a ≡ x) × (b ≡ y) × (g ≡ z)
+    same_took m a b g n x y z same = (cc, cc, cc)
+
+    ends : (setup : Setup) (logs : Logs) (me : ℕ) (message : Message) (before : Standing) (log a own : List LogItem) → before.log ≡ log ++ a → (answered setup logs me message.from message.wants before).log ≡ log ++ own
+        → (answered setup logs me message.from message.wants before).log ≡ before.log ++ drop (length a) own
+    ends setup logs me message before log a own is longer =
+        let more : List LogItem = items_for me (gives_for setup logs me message.from message.wants before) before in
+        let there : (answered setup logs me message.from message.wants before).log ≡ before.log ++ more = ap (λ (p : Standing). p.log) (answered_gives setup logs me message.from message.wants before) ∙ logged_items me (gives_for setup logs me message.from message.wants before) before in
+        let own_is : own ≡ a ++ more = append_cancel_left log own (a ++ more) (sym longer ∙ there ∙ ap (λ (l : List LogItem). l ++ more) is ∙ append_assoc log a more) in
+        there ∙ ap (λ (l : List LogItem). before.log ++ l) (sym (ap (drop (length a)) own_is ∙ back_of a more (length a) refl))
+
+pub admits_of : (setup : Setup) (message : Message) (r heard : Replica) (taken : Taken) (front accepts outs : List LogItem) → Splits setup message r taken front accepts outs → heard ≡ record r { told = told_of message r } → Admits setup r.me message r heard front
+admits_of setup message r heard taken front accepts outs h is = record { own = h.own; fits = h.fits; heard = is; admitted = (parts_of setup message r taken front accepts outs h).admitted }
+
+-- the Accepts are next once the items were applied
+pub accepts_next : (setup : Setup) (message : Message) (r heard learned : Replica) (taken : Taken) (front accepts outs : List LogItem) → Splits setup message r taken front accepts outs → Admits setup r.me message r heard front → Learns setup r.me message.from front heard learned
+    → AreNext setup (known_to learned) learned.me (standing_of 0 [] learned) accepts
+accepts_next setup message r heard learned taken front accepts outs h admits learns =
+    let me : ℕ = r.me in
+    let parts = parts_of setup message r taken front accepts outs h in
+    let part = part_of setup me message (cut_in r.store) front h.fits parts.admitted in
+    let known : Logs = known_to learned in
+    let logs : known ≡ with_items message.from front (known_to r) = learns.logs ∙ ap (λ (s : Replica). with_items message.from front (known_to s)) admits.heard in
+    let placed = items_placed message.from (slice_index (cut_in r.store) message.from) (known_to r) front part.row (cut_counts setup.spec setup.replicas r message.from h.own.store) (omega (arith, h.fits.sender, h.own.store.whole)) in
+    let all : AllByRecursion (λ x. IsKnown known me (body.Accept x.origin x.index)) front = each_known (slice_index (cut_in r.store) message.from) front part.row (subst (λ (l : Logs). AllByRecursion (λ x. item_at l x.origin x.index ≡ Some x) front) (sym logs) placed) in
+    let mine : learned.me ≡ me = ap (λ (s : Replica). s.me) learns.kept ∙ ap (λ (s : Replica). s.me) admits.heard in
+    let stands : standing_of 0 [] learned ≡ start_of message r front = learned_stands setup message r heard learned front 0 [] admits learns in
+    let there : AreNext setup known me (start_of message r front) (items_for me (accepts_of me front) (start_of message r front)) = free_next setup known me (accepts_of me front) (start_of message r front) (accepts_free setup known me front all) in
+    subst (λ i. AreNext setup known i (standing_of 0 [] learned) accepts) (sym mine) (subst (λ (p : Standing). AreNext setup known me p accepts) (sym stands) (subst (AreNext setup known me (start_of message r front)) (sym parts.accepts_are) there))
+  where
+    each_known : (at : ℕ) (items : List LogItem) → AreInRow message.from at items → AllByRecursion (λ x. item_at (known_to learned) x.origin x.index ≡ Some x) items → AllByRecursion (λ x. IsKnown (known_to learned) r.me (body.Accept x.origin x.index)) items
+    each_known at [] row all = tt
+    each_known at (x ∷ items) row all = (((λ same. h.fits.other (sym row.0 ∙ same)), slice_get_within (log_at (known_to learned) x.origin) x.index x all.0), each_known (at + 1) items row.3 all.1)
+
+-- they make these bodies
+pub accepts_bodies : (setup : Setup) (message : Message) (r : Replica) (taken : Taken) (front accepts outs : List LogItem) → Splits setup message r taken front accepts outs → map (λ (i : LogItem). i.body) accepts ≡ accepts_of r.me front
+accepts_bodies setup message r taken front accepts outs h = ap (map (λ (i : LogItem). i.body)) (parts_of setup message r taken front accepts outs h).accepts_are ∙ bodies_back r.me (accepts_of r.me front) (start_of message r front)
+
+pub accepts_short : (setup : Setup) (message : Message) (r : Replica) (taken : Taken) (front accepts outs : List LogItem) → Splits setup message r taken front accepts outs → length accepts ≤ 16
+accepts_short setup message r taken front accepts outs h =
+    let parts = parts_of setup message r taken front accepts outs h in
+    let part = part_of setup r.me message (cut_in r.store) front h.fits parts.admitted in
+    let few = accepts_few r.me front in
+    omega (arith, ap length parts.accepts_are, items_long r.me (accepts_of r.me front) (start_of message r front), few, part.few)
+
+-- the Outs are what it gives by what it then holds
+outs_same : (setup : Setup) (message : Message) (r mid left : Replica) (taken : Taken) (front accepts outs : List LogItem) → Splits setup message r taken front accepts outs → Drops setup message r mid left front
+    → outs ≡ items_for left.me (outs_of setup message left) (standing_of 0 [] left)
+outs_same setup message r mid left taken front accepts outs h drops =
+    let parts = parts_of setup message r taken front accepts outs h in
+    let p : Standing = standing_of 0 [] left in
+    let bodies : List Body = outs_of setup message left in
+    let before : p.log ≡ (before_of setup message r front).log = ap (λ (q : Standing). q.log) (left_stands setup message r mid left front 0 [] drops) in
+    let there : (answered setup (known_to left) left.me message.from message.wants p).log ≡ p.log ++ items_for left.me bodies p = ap (λ (q : Standing). q.log) (answered_gives setup (known_to left) left.me message.from message.wants p) ∙ logged_items left.me bodies p in
+    append_cancel_left p.log outs (items_for left.me bodies p) (ap (λ (l : List LogItem). l ++ outs) before ∙ sym parts.outs_end ∙ sym (ap (λ (q : Standing). q.log) (left_answers setup message r mid left front 0 [] drops)) ∙ there)
+
+pub outs_next : (setup : Setup) (message : Message) (r mid left : Replica) (taken : Taken) (front accepts outs : List LogItem) → Splits setup message r taken front accepts outs → Drops setup message r mid left front → AreNext setup (known_to left) left.me (standing_of 0 [] left) outs
+outs_next setup message r mid left taken front accepts outs h drops =
+    subst (AreNext setup (known_to left) left.me (standing_of 0 [] left)) (sym (outs_same setup message r mid left taken front accepts outs h drops)) (gives_next setup (known_to left) left.me message.from message.wants (standing_of 0 [] left) h.fits.wants)
+
+pub outs_short : (setup : Setup) (message : Message) (r mid left : Replica) (taken : Taken) (front accepts outs : List LogItem) → Splits setup message r taken front accepts outs → Drops setup message r mid left front → length outs ≤ 8
+outs_short setup message r mid left taken front accepts outs h drops =
+    let few = gives_few setup (known_to left) left.me message.from message.wants (standing_of 0 [] left) in
+    omega (arith, ap length (outs_same setup message r mid left taken front accepts outs h drops), items_long left.me (outs_of setup message left) (standing_of 0 [] left), few, h.fits.few_wants)
+
+pub taken_done : (setup : Setup) (message : Message) (r mid left new : Replica) (taken : Taken) (front accepts outs : List LogItem) → Splits setup message r taken front accepts outs → Drops setup message r mid left front
+    → HasLoggedAll setup (map (λ (i : LogItem). i.body) outs) left new → HasTaken setup message r (outcomes.Took message.number taken.applied taken.accepted taken.gave) new
+taken_done setup message r mid left new taken front accepts outs h drops logged =
+    let parts = parts_of setup message r taken front accepts outs h in
+    let same = outs_same setup message r mid left taken front accepts outs h drops in
+    let bodies : List Body = outs_of setup message left in
+    let these : map (λ (i : LogItem). i.body) outs ≡ bodies = ap (map (λ (i : LogItem). i.body)) same ∙ bodies_back left.me bodies (standing_of 0 [] left) in
+    let gave : length bodies ≡ taken.gave = sym (items_long left.me bodies (standing_of 0 [] left)) ∙ sym (ap length same) ∙ sym parts.gave_is in
+    let outcome : outcomes.Took message.number (length front) (length (accepts_of r.me front)) (length bodies) ≡ outcomes.Took message.number taken.applied taken.accepted taken.gave =
+    ap (λ n. outcomes.Took message.number n (length (accepts_of r.me front)) (length bodies)) (sym parts.applied_is) ∙ ap (λ n. outcomes.Took message.number taken.applied n (length bodies)) (sym parts.accepted_is) ∙ ap (outcomes.Took message.number taken.applied taken.accepted) gave in
+    subst (λ (o : Outcome). HasTaken setup message r o new) outcome (has_taken setup message r mid left new front drops (subst (λ (bs : List Body). HasLoggedAll setup bs left new) these logged) h.fits.few_wants)
+
+-- the batch has as many items of its own
+pub accepted_within : (setup : Setup) (message : Message) (r : Replica) (taken : Taken) → IsReplica setup r.me r → MessageFits setup.spec setup.replicas r.me message → IsTaken setup message r taken → taken.accepted ≤ length (drop taken.applied taken.batch.items)
+accepted_within setup message r taken own fits decided =
+    let items : List LogItem = taken.batch.items in
+    let left : List LogItem = drop taken.applied items in
+    let front : List LogItem = take taken.applied items in
+    let accepts : List LogItem = take taken.accepted left in
+    let parts = parts_of setup message r taken front accepts (drop taken.accepted left) (record { own = own; fits = fits; decided = decided; front_is = refl; accepts_are = refl; outs_are = refl }) in
+    omega (arith, parts.accepted_is, ap length parts.accepts_are, items_long r.me (accepts_of r.me front) (start_of message r front), length-take taken.accepted left)

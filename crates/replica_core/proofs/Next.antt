@@ -1,0 +1,231 @@
+-- Items that a replica may log next, one after the other.
+use Rattle.std.proofs.Common.{◌≡◌, ◌≢◌, ℕ, zero, suc, ◌+◌, ◌-◌, ◌/◌, ◌<◌, ◌≤◌, ◌^◌, min, Bool, true, false, cond, List, [], ◌∷◌, ◌++◌, length, get_or, map, refl, sym, ap, subst, ◌∙◌, arith, length-append}
+use Rattle.std.specs.Prelude.{Some, None, Option, Contains, sum_by, slice_get, ◌==◌}
+use Rattle.std.specs.List.{AllByRecursion}
+use Rattle.std.proofs.lemmas.List.{append_assoc, append-nil, map-append}
+use Rattle.spec_model.specs.declared.plan.Setup.{Setup}
+use Rattle.spec_model.specs.declared.spec.Spec.{Spec}
+use Rattle.spec_model.specs.declared.instance.Cell.{Cell}
+use Rattle.spec_model.specs.declared.right.Right.{Right}
+use Rattle.spec_model.specs.declared.right.Right.TheVariants as right
+use Rattle.spec_model.specs.declared.right.Held.{Held}
+use Rattle.spec_model.specs.declared.right.Held.TheVariants as held
+use Rattle.spec_model.specs.declared.right.Want.{Want}
+use Rattle.spec_model.specs.declared.right.WantAsk.{WantAsk}
+use Rattle.spec_model.specs.declared.right.WantAsk.TheVariants as asked
+use Rattle.spec_model.specs.declared.right.Piece.{Piece}
+use Rattle.spec_model.specs.declared.right.Piece.TheVariants as piece
+use Rattle.spec_model.specs.declared.log.Body.{Body}
+use Rattle.spec_model.specs.declared.log.Body.TheVariants as body
+use Rattle.spec_model.specs.declared.log.LogItem.{LogItem}
+use Rattle.spec_model.specs.Universe.{cells}
+use Rattle.run_model.specs.Logs.{Logs, item_at, log_at}
+use Rattle.run_model.specs.Rights.{body_gains, body_loses, even_share, first_count, held_count, out_gives, same_right}
+use Rattle.run_model.specs.Worlds.{Standing, Sending, holding, logged, logged_all}
+use Rattle.run_model.specs.Steps.{accept_of, accepts_of, answered, given}
+use Rattle.run_model.specs.Wants.{need_of, piece_for}
+use Rattle.run_model.specs.Fitting.{AskFits, BodyFits, ItemFits, PieceFits, RightFits, WantFits}
+use Rattle.run_model.proofs.Lists.{each_append, each_at}
+use Rattle.run_model.proofs.Escrow.{same_right_is}
+use Rattle.run_model.proofs.Agreed.{AllAgree, gains_all_agree}
+use Rattle.causal_store.specs.Stores.{IsStore, cut_in}
+use Rattle.replica_core.specs.Replicas.{HasLogged, HasLoggedAll, HasRoom, IsKnown, IsReplica, KnowsOwn, item_of, known_to, own_log, standing_of}
+use Rattle.replica_core.specs.Decisions.{AreNext, IsNext}
+use Rattle.replica_core.specs.declared.replica.Replica.{Replica}
+use Rattle.replica_core.proofs.Changes.{logged_alone, logged_append, logged_both, logged_these, others_known, own_again}
+use Rattle.replica_core.proofs.Logged.{OthersSame, all_agree, body_agrees, known_same}
+use Rattle.replica_core.proofs.Received.{cut_long, each_in_log}
+
+-- ---- one item
+
+-- the next item of a replica fits the store
+pub next_fits : (spec : Spec) (r : Replica) (b : Body) (item : LogItem) → IsStore spec (length (known_to r)) r.store → r.me < length (known_to r) → item ≡ item_of r b → BodyFits spec b → HasRoom 1 r → ItemFits spec (length (known_to r)) item
+next_fits spec r b item store place is fits room = subst (ItemFits spec (length (known_to r))) (sym is) (record {
+  origin = place;
+  small = room;
+  past = cut_long spec (length (known_to r)) r store;
+  body = fits;
+})
+
+-- by logs that are the same but for the own one the same items are next
+pub next_agree : (setup : Setup) (me : ℕ) (a b : Logs) (p : Standing) (items : List LogItem) → OthersSame me a b → AllByRecursion (λ i. IsKnown a me i.body) p.log → AreNext setup a me p items → AreNext setup b me p items
+next_agree setup me a b p [] same known next = tt
+next_agree setup me a b p (x ∷ items) same known next =
+    let agree : AllAgree a b p.log = all_agree me a b a p.log same known in
+    let count : (r : Right) → held_count setup a me p.log r ≡ held_count setup b me p.log r =
+    λ r. ap (λ n. (even_share (first_count setup.spec r) setup.replicas me + n) - sum_by (λ (i : LogItem). body_loses setup.spec r i.body) p.log) (gains_all_agree setup.spec a b r p.log agree) in (
+      record {
+        is = next.0.is;
+        fits = next.0.fits;
+        known = known_same me a b x.body same next.0.known;
+        enough = λ cell among. subst (λ n. body_loses setup.spec (right.Low cell) x.body ≤ n) (count (right.Low cell)) (next.0.enough cell among);
+      },
+      next_agree setup me a b (logged me x.body p) items same (each_append (λ (i : LogItem). IsKnown a me i.body) p.log _ known (next.0.known, tt)) next.1,
+    )
+
+-- once the first item was logged the others are next
+pub next_then : (setup : Setup) (b : Body) (old new : Replica) (items : List LogItem) → HasLogged setup b old new → AreNext setup (known_to old) old.me (logged old.me b (standing_of 0 [] old)) items → IsReplica setup old.me old → IsKnown (known_to old) old.me b
+    → AreNext setup (known_to new) new.me (standing_of 0 [] new) items
+next_then setup b old new items h next own known =
+    let me : ℕ = old.me in
+    let mine : new.me ≡ me = h.own.me_is in
+    let others : OthersSame me (known_to old) (known_to new) = subst (λ i. OthersSame i (known_to old) (known_to new)) mine (others_known (known_to old) new h.knows) in
+    let p : Standing = logged me b (standing_of 0 [] old) in
+    let there : AreNext setup (known_to new) me p items = next_agree setup me (known_to old) (known_to new) p items others (each_append (λ (i : LogItem). IsKnown (known_to old) me i.body) (own_log old) _ own.known (known, tt)) next in
+    subst (λ i. AreNext setup (known_to new) i (standing_of 0 [] new) items) (sym mine) (subst (λ (q : Standing). AreNext setup (known_to new) me q items) (sym (h.stands 0 [])) there)
+
+-- ---- the items that bodies make
+
+-- the items of these bodies, logged one after the other
+abbrev pub items_for : ℕ → List Body → Standing → List LogItem
+items_for me [] p = []
+items_for me (b ∷ bodies) p = record { origin = me; index = length p.log; deps = p.cut; body = b } ∷ items_for me bodies (logged me b p)
+
+pub logged_items : (me : ℕ) (bodies : List Body) (p : Standing) → (logged_all me bodies p).log ≡ p.log ++ items_for me bodies p
+logged_items me [] p = sym (append-nil p.log)
+logged_items me (b ∷ bodies) p =
+    let item : LogItem = record { origin = me; index = length p.log; deps = p.cut; body = b } in
+    logged_items me bodies (logged me b p) ∙ append_assoc p.log (item ∷ []) (items_for me bodies (logged me b p))
+
+pub bodies_back : (me : ℕ) (bodies : List Body) (p : Standing) → map (λ (i : LogItem). i.body) (items_for me bodies p) ≡ bodies
+bodies_back me [] p = refl
+bodies_back me (b ∷ bodies) p = ap (λ (l : List Body). b ∷ l) (bodies_back me bodies (logged me b p))
+
+pub items_long : (me : ℕ) (bodies : List Body) (p : Standing) → length (items_for me bodies p) ≡ length bodies
+items_long me [] p = refl
+items_long me (b ∷ bodies) p = let rest = items_long me bodies (logged me b p) in omega (arith, rest)
+
+-- what a replica may log: it loses nothing, and accepts what is known
+abbrev pub IsFree : Setup → Logs → ℕ → Body → Type 0
+IsFree setup logs me b = BodyFits setup.spec b × IsKnown logs me b × ((r : Right) → body_loses setup.spec r b ≡ 0)
+
+pub free_next : (setup : Setup) (logs : Logs) (me : ℕ) (bodies : List Body) (p : Standing) → AllByRecursion (IsFree setup logs me) bodies → AreNext setup logs me p (items_for me bodies p)
+free_next setup logs me [] p all = tt
+free_next setup logs me (b ∷ bodies) p all = (
+  record { is = refl; fits = all.0.0; known = all.0.1; enough = λ cell among. let none = all.0.2 (right.Low cell) in omega (arith, none) },
+  free_next setup logs me bodies (logged me b p) all.1,
+)
+
+-- the Accepts of applied items lose nothing
+pub accepts_free : (setup : Setup) (logs : Logs) (me : ℕ) (items : List LogItem) → AllByRecursion (λ x. IsKnown logs me (body.Accept x.origin x.index)) items → AllByRecursion (IsFree setup logs me) (accepts_of me items)
+accepts_free setup logs me [] all = tt
+accepts_free setup logs me (x ∷ items) all = each_append (IsFree setup logs me) (accept_of me x.origin x.index x.body) (accepts_of me items) (of_body x.body) (accepts_free setup logs me items all.1)
+  where
+    of_body : (b : Body) → AllByRecursion (IsFree setup logs me) (accept_of me x.origin x.index b)
+    of_body (body.Act inst) = tt
+    of_body (body.Out to r given) = by_test (to == me)
+      where
+        by_test : (t : Bool) → AllByRecursion (IsFree setup logs me) (cond t (body.Accept x.origin x.index ∷ []) [])
+        by_test true = ((tt, all.0, λ r. refl), tt)
+        by_test false = tt
+    of_body (body.Accept from at) = tt
+
+-- ---- the items that answer wants
+
+-- what is given to each want in turn
+abbrev pub gives_for : Setup → Logs → ℕ → ℕ → List Want → Standing → List Body
+gives_for setup logs me to [] p = []
+gives_for setup logs me to (w ∷ wants) p =
+    given (piece_for (holding setup logs me p (need_of w)) w.ask) to w.right
+    ++ gives_for setup logs me to wants (logged_all me (given (piece_for (holding setup logs me p (need_of w)) w.ask) to w.right) p)
+
+pub answered_gives : (setup : Setup) (logs : Logs) (me to : ℕ) (wants : List Want) (p : Standing) → answered setup logs me to wants p ≡ logged_all me (gives_for setup logs me to wants p) p
+answered_gives setup logs me to [] p = refl
+answered_gives setup logs me to (w ∷ wants) p =
+    let bodies : List Body = given (piece_for (holding setup logs me p (need_of w)) w.ask) to w.right in
+    answered_gives setup logs me to wants (logged_all me bodies p) ∙ sym (logged_append me bodies (gives_for setup logs me to wants (logged_all me bodies p)) p)
+
+logged_stamped : (me : ℕ) (bodies : List Body) (p : Standing) (stamp : ℕ) (sendings : List Sending) → logged_all me bodies (record p { stamp = stamp; sendings = sendings }) ≡ record (logged_all me bodies p) { stamp = stamp; sendings = sendings }
+logged_stamped me [] p stamp sendings = refl
+logged_stamped me (b ∷ bodies) p stamp sendings = logged_stamped me bodies (logged me b p) stamp sendings
+
+-- whatever the stamp is, and what was sent
+pub gives_stamped : (setup : Setup) (logs : Logs) (me to : ℕ) (wants : List Want) (p : Standing) (stamp : ℕ) (sendings : List Sending) → gives_for setup logs me to wants (record p { stamp = stamp; sendings = sendings }) ≡ gives_for setup logs me to wants p
+gives_stamped setup logs me to [] p stamp sendings = refl
+gives_stamped setup logs me to (w ∷ wants) p stamp sendings =
+    let bodies : List Body = given (piece_for (holding setup logs me p (need_of w)) w.ask) to w.right in
+    ap (λ (q : Standing). bodies ++ gives_for setup logs me to wants q) (logged_stamped me bodies p stamp sendings) ∙ ap (λ (l : List Body). bodies ++ l) (gives_stamped setup logs me to wants (logged_all me bodies p) stamp sendings)
+
+pub gives_few : (setup : Setup) (logs : Logs) (me to : ℕ) (wants : List Want) (p : Standing) → length (gives_for setup logs me to wants p) ≤ length wants
+gives_few setup logs me to [] p = omega arith
+gives_few setup logs me to (w ∷ wants) p =
+    let bodies : List Body = given (piece_for (holding setup logs me p (need_of w)) w.ask) to w.right in
+    let rest = gives_few setup logs me to wants (logged_all me bodies p) in
+    let one = few (piece_for (holding setup logs me p (need_of w)) w.ask) in
+    omega (arith, one, rest, length-append bodies (gives_for setup logs me to wants (logged_all me bodies p)))
+  where
+    few : (o : Option Piece) → length (given o to w.right) ≤ 1
+    few None = omega arith
+    few (Some pc) = omega arith
+
+-- a piece that is given of a right that is held
+pub record Gives (setup : Setup) (held_low : Cell → ℕ) (b : Body) : Type 0 where
+  pub fits : BodyFits setup.spec b
+  pub out : (logs : Logs) (me : ℕ) → IsKnown logs me b
+  pub enough : (cell : Cell) → Contains (cells setup.spec) cell → body_loses setup.spec (right.Low cell) b ≤ held_low cell
+
+-- at most half of a count, rounded up
+count_given : (setup : Setup) (held_of_low : Cell → ℕ) (to : ℕ) (cell : Cell) (n : ℕ) → Contains (cells setup.spec) cell → n < 2 ^ 64 → AllByRecursion (Gives setup held_of_low) (given (piece_for (held.Count (held_of_low cell)) (asked.Count n)) to (right.Low cell))
+count_given setup held_of_low to cell n among small = by_test (g == 0)
+  where
+    g : ℕ
+    g = min n ((held_of_low cell + 1) / 2)
+
+    low_is : (a b : Cell) → right.Low a ≡ right.Low b → a ≡ b
+    low_is a b h = cc
+
+    loses : (d : Cell) → Contains (cells setup.spec) d → (t : Bool) → same_right (right.Low cell) (right.Low d) ≡ t → cond t g 0 ≤ held_of_low d
+    loses d known true is = let same : cell ≡ d = low_is cell d (same_right_is setup.spec (right.Low cell) (right.Low d) known is) in subst (λ c. g ≤ held_of_low c) same (omega arith)
+    loses d known false is = omega arith
+
+    by_test : (t : Bool) → AllByRecursion (Gives setup held_of_low) (given (cond t None (Some (piece.Count g))) to (right.Low cell))
+    by_test true = tt
+    by_test false = (
+      record {
+        fits = (among, (let less : g < 2 ^ 64 = omega (arith, small) in less));
+        out = λ logs me. tt;
+        enough = λ d known. loses d known (same_right (right.Low cell) (right.Low d)) refl;
+      },
+      tt,
+    )
+
+-- of a right to lower a cell
+given_fits : (setup : Setup) (holds : Right → ℕ) (to : ℕ) (r : Right) (ask : WantAsk) → RightFits setup.spec r → AskFits ask → AllByRecursion (Gives setup (λ cell. holds (right.Low cell))) (given (piece_for (held.Count (holds r)) ask) to r)
+given_fits setup holds to (right.Low cell) (asked.Count n) right_fits ask_fits = count_given setup (λ c. holds (right.Low c)) to cell n right_fits ask_fits
+given_fits setup holds to (right.Low cell) (asked.Level l) right_fits ask_fits = absurd ask_fits
+given_fits setup holds to (right.Low cell) (asked.Points span) right_fits ask_fits = absurd ask_fits
+given_fits setup holds to (right.High cell) ask right_fits ask_fits = absurd right_fits
+given_fits setup holds to (right.Lock lock key) ask right_fits ask_fits = absurd right_fits
+given_fits setup holds to (right.Entry clause args literal) ask right_fits ask_fits = absurd right_fits
+given_fits setup holds to (right.Part part key) ask right_fits ask_fits = absurd right_fits
+
+-- in front of others that are next
+piece_next : (setup : Setup) (logs : Logs) (me to : ℕ) (r : Right) (o : Option Piece) (bodies : List Body) (p : Standing) → AllByRecursion (Gives setup (λ cell. held_count setup logs me p.log (right.Low cell))) (given o to r)
+    → AreNext setup logs me (logged_all me (given o to r) p) (items_for me bodies (logged_all me (given o to r) p)) → AreNext setup logs me p (items_for me (given o to r ++ bodies) p)
+piece_next setup logs me to r None bodies p all rest = rest
+piece_next setup logs me to r (Some pc) bodies p all rest = (record { is = refl; fits = all.0.fits; known = all.0.out logs me; enough = all.0.enough }, rest)
+
+pub gives_next : (setup : Setup) (logs : Logs) (me to : ℕ) (wants : List Want) (p : Standing) → AllByRecursion (WantFits setup.spec) wants → AreNext setup logs me p (items_for me (gives_for setup logs me to wants p) p)
+gives_next setup logs me to [] p all = tt
+gives_next setup logs me to (w ∷ wants) p all =
+    let o : Option Piece = piece_for (holding setup logs me p (need_of w)) w.ask in
+    let q : Standing = logged_all me (given o to w.right) p in
+    piece_next setup logs me to w.right o (gives_for setup logs me to wants q) p (given_fits setup (held_count setup logs me p.log) to w.right w.ask all.0.of all.0.much) (gives_next setup logs me to wants q all.1)
+
+-- ---- an item by its body
+
+pub loses_as : (setup : Setup) (logs : Logs) (me : ℕ) (p : Standing) (item : LogItem) (b : Body) → item.body ≡ b → IsNext setup logs me p item → (cell : Cell) → Contains (cells setup.spec) cell → body_loses setup.spec (right.Low cell) b ≤ held_count setup logs me p.log (right.Low cell)
+loses_as setup logs me p item b is next cell among = subst (λ (x : Body). body_loses setup.spec (right.Low cell) x ≤ held_count setup logs me p.log (right.Low cell)) is (next.enough cell among)
+
+pub log_inside : (logs : Logs) (i k : ℕ) → k < length (log_at logs i) → i < length logs
+log_inside [] i k h = absurd (omega (arith, h))
+log_inside (x ∷ logs) zero k h = omega arith
+log_inside (x ∷ logs) (suc i) k h = let rest = log_inside logs i k h in omega (arith, rest)
+
+pub item_there : (log : List LogItem) (k : ℕ) (x : LogItem) → k < length log → x ≡ get_or log k x → slice_get log k ≡ Some x
+item_there [] k x lt is = absurd (omega (arith, lt))
+item_there (y ∷ log) zero x lt is = ap (λ (z : LogItem). Some z) (sym is)
+item_there (y ∷ log) (suc k) x lt is = item_there log k x (omega (arith, lt)) is
+
+pub item_fits : (setup : Setup) (r : Replica) (from index : ℕ) (x : LogItem) → IsReplica setup r.me r → item_at (known_to r) from index ≡ Some x → BodyFits setup.spec x.body
+item_fits setup r from index x own there = (each_at (ItemFits setup.spec setup.replicas) (log_at (known_to r) from) index x (each_in_log (ItemFits setup.spec setup.replicas) (known_to r) from own.store.fits) there).body

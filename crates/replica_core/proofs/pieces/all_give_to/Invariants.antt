@@ -1,0 +1,11 @@
+use Rattle.std.specs.Prelude.{◌≡◌, ◌≤◌, ◌*◌, ◌^◌, sum_by, take}
+use Rattle.spec_model.specs.declared.right.Right.TheVariants as right
+use Rattle.replica_core.specs.Drafts.{gives_to}
+use Rattle.replica_core.proofs.pieces.all_give_to.Given as goal
+
+-- what the items so far give to the replica
+abbrev pub invariant-loop-item : goal.invariant-loop-item
+invariant-loop-item l = record {
+  value : l.count ≡ sum_by (λ item. gives_to l.me (right.Low l.cell) item.body) (take l.item-index l.items);
+  small : l.count ≤ l.item-index * 2 ^ 64;
+}

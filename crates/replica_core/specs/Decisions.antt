@@ -1,0 +1,50 @@
+-- What a replica decides by itself, and what it commits.
+use Rattle.std.specs.Prelude.{◌≡◌, ℕ, ◌≤◌, List, [], ◌∷◌, ◌++◌, length, Some, None, Contains}
+use Rattle.spec_model.specs.declared.plan.Setup.{Setup}
+use Rattle.spec_model.specs.declared.instance.Inst.{Inst}
+use Rattle.spec_model.specs.declared.instance.Cell.{Cell}
+use Rattle.spec_model.specs.declared.right.Right.TheVariants as right
+use Rattle.spec_model.specs.declared.log.Body.TheVariants as body
+use Rattle.spec_model.specs.declared.log.LogItem.{LogItem}
+use Rattle.spec_model.specs.Universe.{cells}
+use Rattle.spec_model.specs.Needs.{needs}
+use Rattle.run_model.specs.declared.message.Message.{Message}
+use Rattle.run_model.specs.declared.step.Outcome.TheVariants as outcomes
+use Rattle.run_model.specs.Logs.{Logs}
+use Rattle.run_model.specs.Rights.{body_loses, first_lacking, held_count}
+use Rattle.run_model.specs.Worlds.{Standing, logged}
+use Rattle.run_model.specs.Steps.{Takes}
+use Rattle.run_model.specs.Fitting.{BodyFits}
+use Rattle.replica_core.specs.Tables.{NeedFits}
+use Rattle.replica_core.specs.Replicas.{IsKnown, holds_of, item_of, known_to, own_log, standing_of, with_items}
+use Rattle.replica_core.specs.declared.decision.Decision.{Decision}
+use Rattle.replica_core.specs.declared.decision.Decision.TheVariants as decision
+use Rattle.replica_core.specs.declared.decision.Taken.{Taken}
+use Rattle.replica_core.specs.declared.replica.Replica.{Replica}
+
+-- what it decides on a request: short of the first need that it doesn't meet, else one act, with all that it has seen in its past
+abbrev pub Decides : Setup → Inst → Replica → Decision → Type 0
+Decides setup inst r (decision.Breaks broken) = ⊥
+Decides setup inst r (decision.Short lacking) = (first_lacking (holds_of setup r) (needs setup inst) ≡ Some lacking) × NeedFits setup.spec lacking.need
+Decides setup inst r (decision.Act batch) = (first_lacking (holds_of setup r) (needs setup inst) ≡ None) × (batch.items ≡ item_of r (body.Act inst) ∷ [])
+
+-- what it decides on a message: the items that are applied of it, and then what the own log has more once it was taken, so many of each kind
+pub record IsTaken (setup : Setup) (message : Message) (r : Replica) (taken : Taken) : Type 0 where
+  pub applied : List LogItem
+  pub own : List LogItem
+  pub after : Standing
+  pub takes : Takes setup (with_items message.from applied (known_to r)) r.me message applied (standing_of 0 [] r) (outcomes.Took message.number taken.applied taken.accepted taken.gave) after
+  pub longer : after.log ≡ own_log r ++ own
+  pub batch : taken.batch.items ≡ applied ++ own
+
+-- an item that replica me may log next, by the logs that it knows: it has all that was seen in its past, and what it loses is held
+pub record IsNext (setup : Setup) (logs : Logs) (me : ℕ) (p : Standing) (item : LogItem) : Type 0 where
+  pub is : item ≡ record { origin = me; index = length p.log; deps = p.cut; body = item.body }
+  pub fits : BodyFits setup.spec item.body
+  pub known : IsKnown logs me item.body
+  pub enough : (cell : Cell) → Contains (cells setup.spec) cell → body_loses setup.spec (right.Low cell) item.body ≤ held_count setup logs me p.log (right.Low cell)
+
+-- or several, one after the other
+abbrev pub AreNext : Setup → Logs → ℕ → Standing → List LogItem → Type 0
+AreNext setup logs me p [] = Unit {0}
+AreNext setup logs me p (item ∷ items) = IsNext setup logs me p item × AreNext setup logs me (logged me item.body p) items
