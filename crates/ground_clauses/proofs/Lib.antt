@@ -22,5 +22,6 @@ pub mod Shown
 pub mod Speaking
 pub mod Stands
 pub mod Totals
+pub mod TrueForms
 pub mod Untouched
 pub mod Values

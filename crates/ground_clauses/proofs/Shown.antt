@@ -1,20 +1,20 @@
 -- The states of a model of a query.
-use Rattle.std.proofs.Common.{◌≡◌, inl, inr, ℕ, suc, Bool, true, false, ◌&&◌, ◌||◌, cond, not, List, [], ◌∷◌, ◌++◌, get_or, map, length, refl, sym, ap, subst, ◌∙◌}
+use Rattle.std.proofs.Common.{◌≡◌, inl, inr, ℕ, Bool, true, false, ◌&&◌, ◌||◌, cond, not, List, [], ◌∷◌, ◌++◌, get_or, map, length, refl, sym, ap, ◌∙◌}
 use Rattle.std.specs.List.{list_any, AllByRecursion, filter, flat_map}
-use Rattle.std.proofs.lemmas.Bool.{and_parts, cases_Bool, or_cases, or_left, or_right, true≢false}
+use Rattle.std.proofs.lemmas.Bool.{and_parts, cases_Bool, true≢false}
 use mathlib.Core.Bool.{beq}
-use Rattle.ground_clauses.proofs.Forms.{ClauseTrue, IsOwn, RiseOwn, TellsAtom, TellsLiteral, entry_own, form_true, forms_say, literal_says, rises_own}
+use Rattle.ground_clauses.proofs.Forms.{ClauseTrue, IsOwn, RiseOwn, TellsAtom, TellsLiteral, entry_own, forms_say, literal_says, rises_own}
 use Rattle.ground_clauses.proofs.Lists.{any_map, each_append_left, each_append_right, each_both, each_weaker, flat_map_each, none_each}
-use Rattle.ground_clauses.proofs.Numbers.{beq_not, same_atom-true, same_lit-true}
-use Rattle.ground_clauses.proofs.Parts.{any_flat, or_none}
+use Rattle.ground_clauses.proofs.Numbers.{beq_not, same_lit-true}
+use Rattle.ground_clauses.proofs.TrueForms.{any_weaker, map_each, filter_each, each_none, any_atom, index_none, Opposes, Respects, form_back, denial_back}
+use Rattle.ground_clauses.proofs.Parts.{any_flat}
 use Rattle.ground_clauses.specs.Cases.{case_hypotheses, case_sets, case_variables, equalities_true, equality_holds, equality_true, query_of, target_classes, target_of, touches}
 use Rattle.ground_clauses.specs.Derivations.{Solves, lit_true}
 use Rattle.ground_clauses.specs.Laws.{IsQuadrupleOf, before_both}
-use Rattle.ground_clauses.specs.Query.{Hypothesis, Sets, atom_clauses, atom_of, atom_variables, atoms_of, clause_of, dedup, dedup_after, denial, denials, entry_at, entry_variables, form_lits, forms, has_both_signs, hypothesis_clauses, index_of, is_atom, is_certain, literal_form, literal_is_atom, numbered, opposite, query_clauses, rise_clause, rises_at, same_atom, same_lit, same_moment, same_variable, signed_form, variable, variables_of, winner}
+use Rattle.ground_clauses.specs.Query.{Hypothesis, Sets, atom_clauses, atom_of, atom_variables, atoms_of, clause_of, denial, denials, entry_at, entry_variables, forms, hypothesis_clauses, index_of, is_atom, literal_form, literal_is_atom, numbered, query_clauses, rise_clause, rises_at, same_atom, same_moment, same_variable, signed_form, variable, variables_of, winner}
 use Rattle.ground_clauses.specs.States.{ModelShows, entry_truth, states_by, truth_in_state}
 use Rattle.ground_clauses.specs.declared.case.Case.{Case}
 use Rattle.ground_clauses.specs.declared.state_lit.Form.{Form}
-use Rattle.ground_clauses.specs.declared.state_lit.Form.TheVariants.{Constant, Open}
 use Rattle.ground_clauses.specs.declared.state_lit.StateLit.{StateLit}
 use Rattle.ground_clauses.specs.declared.state_lit.Variable.{Variable}
 use Rattle.spec_model.specs.Stable.{Reads, touch_of}
@@ -28,103 +28,6 @@ use Rattle.spec_model.specs.declared.state.Entry.TheVariants.{Always, Same}
 use Rattle.spec_model.specs.declared.state.Moment.{Moment}
 use Rattle.spec_model.specs.declared.state.Moment.TheVariants.{Both, First, Second, Start}
 use Rattle.spec_model.specs.declared.state.Rise.{Rise}
-
--- ---- lists
-
-any_weaker : {X : Type 0} (p q : X → Bool) (xs : List X) → ((x : X) → p x ≡ true → q x ≡ true) → list_any p xs ≡ true → list_any q xs ≡ true
-any_weaker p q [] f h = h
-any_weaker p q (x ∷ xs) f h = elim (or_cases (p x) (list_any p xs) h) [
-  | inl here ↦ or_left (q x) (list_any q xs) (f x here)
-  | inr there ↦ or_right (q x) (list_any q xs) (any_weaker p q xs f there)
-]
-
-map_each : {X Y : Type 0} (P : Y → Type 0) (f : X → Y) (xs : List X) → AllByRecursion P (map f xs) → AllByRecursion (λ x. P (f x)) xs
-map_each P f [] h = tt
-map_each P f (x ∷ xs) h = (h.0, map_each P f xs h.1)
-
-filter_each : {X : Type 0} (P : X → Type 0) (t : X → Bool) (xs : List X) → AllByRecursion P (filter t xs) → AllByRecursion (λ x. t x ≡ true → P x) xs
-filter_each P t [] h = tt
-filter_each P t (x ∷ xs) h = elim (cases_Bool (t x)) [
-  | inl passes ↦ let k = subst (λ b. AllByRecursion P (cond b (x ∷ filter t xs) (filter t xs))) passes h in ((λ e. k.0), filter_each P t xs k.1)
-  | inr fails ↦ ((λ e. absurd (true≢false (sym e ∙ fails))), filter_each P t xs (subst (λ b. AllByRecursion P (cond b (x ∷ filter t xs) (filter t xs))) fails h))
-]
-
-each_none : {X : Type 0} (p : X → Bool) (xs : List X) → AllByRecursion (λ x. p x ≡ false) xs → list_any p xs ≡ false
-each_none p [] h = refl
-each_none p (x ∷ xs) h = ap (λ b. b || list_any p xs) h.0 ∙ each_none p xs h.1
-
-any_atom : (P : ClassAtom → Type 0) (a : ClassAtom) (atoms : List ClassAtom) → AllByRecursion P atoms → list_any (same_atom a) atoms ≡ true → P a
-any_atom P a [] h is = absurd (true≢false (sym is))
-any_atom P a (b ∷ atoms) h is = elim (or_cases (same_atom a b) (list_any (same_atom a) atoms) is) [
-  | inl here ↦ subst P (sym (same_atom-true a b here)) h.0
-  | inr there ↦ any_atom P a atoms h.1 there
-]
-
-index_none : {X : Type 0} (test : X → Bool) (xs : List X) → list_any test xs ≡ false → index_of test xs ≡ length xs
-index_none test [] h = refl
-index_none test (x ∷ xs) h = elim (cases_Bool (test x)) [
-  | inl here ↦ absurd (true≢false (sym (or_left (test x) (list_any test xs) here) ∙ h))
-  | inr other ↦
-      subst (λ b. cond b 0 (suc (index_of test xs)) ≡ suc (length xs)) (sym other)
-      (ap suc (index_none test xs (ap (λ b. b || list_any test xs) (sym other) ∙ h)))
-]
-
-dedup_any : {X : Type 0} (eq : X → X → Bool) (p : X → Bool) (seen xs : List X) → list_any p (dedup_after eq seen xs) ≡ true → list_any p xs ≡ true
-dedup_any eq p seen [] h = h
-dedup_any eq p seen (x ∷ xs) h = elim (cases_Bool (list_any (eq x) seen)) [
-  | inl old ↦ or_right (p x) (list_any p xs) (dedup_any eq p seen xs (subst (λ b. list_any p (cond b (dedup_after eq seen xs) (x ∷ dedup_after eq (seen ++ x ∷ []) xs)) ≡ true) old h))
-  | inr new ↦ elim (or_cases (p x) (list_any p (dedup_after eq (seen ++ x ∷ []) xs)) (subst (λ b. list_any p (cond b (dedup_after eq seen xs) (x ∷ dedup_after eq (seen ++ x ∷ []) xs)) ≡ true) new h)) [
-    | inl here ↦ or_left (p x) (list_any p xs) here
-    | inr there ↦ or_right (p x) (list_any p xs) (dedup_any eq p (seen ++ x ∷ []) xs there)
-  ]
-]
-
--- ---- clauses that are true have a true form
-
-abbrev Opposes : (StateLit → Bool) → Type 0
-Opposes g = (x : StateLit) → g (opposite x) ≡ not (g x)
-
-abbrev Respects : (StateLit → Bool) → Type 0
-Respects g = (x y : StateLit) → same_lit x y ≡ true → g x ≡ g y
-
-certain_form : (g : StateLit → Bool) (f : Form) → is_certain f ≡ true → form_true g f ≡ true
-certain_form g (Constant b) h = h
-certain_form g (Open x) h = absurd (true≢false (sym h))
-
-literal_form_true : (g : StateLit → Bool) (f : Form) → list_any g (form_lits f) ≡ true → form_true g f ≡ true
-literal_form_true g (Constant b) h = absurd (true≢false (sym h))
-literal_form_true g (Open x) h = sym (or_none (g x)) ∙ h
-
-some_form : (g : StateLit → Bool) (fs : List Form) → list_any g (flat_map form_lits fs) ≡ true → list_any (form_true g) fs ≡ true
-some_form g fs h = any_weaker (λ f. list_any g (form_lits f)) (form_true g) fs (literal_form_true g) (sym (any_flat g form_lits fs) ∙ h)
-
-signs_true : (g : StateLit → Bool) (xs : List StateLit) → Opposes g → Respects g → has_both_signs xs ≡ true → list_any g xs ≡ true
-signs_true g [] o r h = h
-signs_true g (x ∷ xs) o r h = elim (or_cases (list_any (same_lit (opposite x)) xs) (has_both_signs xs) h) [
-  | inr later ↦ or_right (g x) (list_any g xs) (signs_true g xs o r later)
-  | inl here ↦ elim (cases_Bool (g x)) [
-    | inl is ↦ or_left (g x) (list_any g xs) is
-    | inr not_so ↦ or_right (g x) (list_any g xs) (any_weaker (same_lit (opposite x)) g xs (λ y same. sym (r (opposite x) y same) ∙ o x ∙ ap not not_so) here)
-  ]
-]
-
-form_back : (g : StateLit → Bool) (fs : List Form) → Opposes g → Respects g → AllByRecursion (ClauseTrue g) (clause_of fs) → list_any (form_true g) fs ≡ true
-form_back g fs o r h = by_test (list_any is_certain fs) (has_both_signs (flat_map form_lits fs)) refl refl h
-  where
-    by_test : (certain twice : Bool) → list_any is_certain fs ≡ certain → has_both_signs (flat_map form_lits fs) ≡ twice
-        → AllByRecursion (ClauseTrue g) (cond (certain || twice) [] (dedup same_lit (flat_map form_lits fs) ∷ [])) → list_any (form_true g) fs ≡ true
-    by_test true twice is signs h = any_weaker is_certain (form_true g) fs (certain_form g) is
-    by_test false true is signs h = some_form g fs (signs_true g (flat_map form_lits fs) o r signs)
-    by_test false false is signs h = some_form g fs (dedup_any same_lit g [] (flat_map form_lits fs) h.0)
-
-denial_back : (g : StateLit → Bool) (f : Form) → Opposes g → AllByRecursion (ClauseTrue g) (denial f) → form_true g f ≡ false
-denial_back g (Constant true) o h = absurd (true≢false (sym h.0))
-denial_back g (Constant false) o h = refl
-denial_back g (Open x) o h = flip (g x) (sym (o x) ∙ sym (or_none (g (opposite x))) ∙ h.0)
-  where
-    flip : (b : Bool) → not b ≡ true → b ≡ false
-    flip true e = sym e
-    flip false e = refl
 
 -- ---- the states of a model
 
