@@ -1,14 +1,16 @@
 -- A store of the code, as the definitions of runs see it.
-use Rattle.std.specs.Prelude.{◌≡◌, ℕ, ◌≤◌, List, length, map}
+use Rattle.std.specs.Prelude.{◌≡◌, ℕ, ◌-◌, ◌≤◌, List, length, filter, map, slice_get, ◌==◌, vec_capacity}
 use Rattle.std.specs.List.{AllByRecursion}
+use Rattle.std.specs.Option.{option_map_or}
 use Rattle.spec_model.specs.declared.spec.Spec.{Spec}
+use Rattle.spec_model.specs.declared.log.LogItem.{LogItem}
 use Rattle.run_model.specs.Logs.{Logs}
 use Rattle.run_model.specs.Fitting.{ItemFits}
 use Rattle.causal_store.specs.declared.store.Store.{Store}
 
 -- the logs that it keeps, of each replica as far as it is known
 abbrev pub logs_in : Store → Logs
-logs_in s = s.logs.items
+logs_in s = map (λ log. log.items) s.logs.items
 
 -- how many items of each log it has
 abbrev pub cut_in : Store → List ℕ
@@ -24,3 +26,11 @@ pub record IsStore (spec : Spec) (replicas : ℕ) (s : Store) : Type 0 where
 -- no log has more items than a sum of their changes can bear
 abbrev pub IsShort : Store → Type 0
 IsShort s = AllByRecursion (λ log. length log ≤ 4194304) (logs_in s)
+
+-- how many more items of a log it takes without memory
+abbrev pub room_in : Store → ℕ → ℕ
+room_in s origin = option_map_or (λ log. vec_capacity log - length log.items) (slice_get s.logs.items origin) 0
+
+-- it takes these items without memory
+abbrev pub HasRoomFor : Store → List LogItem → Type 0
+HasRoomFor s items = (origin : ℕ) → length (filter (λ item. item.origin == origin) items) ≤ room_in s origin

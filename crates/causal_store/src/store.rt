@@ -1,8 +1,9 @@
 //! The items that a replica has applied, and the state that they give.
 
-ghost use Rattle.std.specs.Prelude.{◌≡◌, ◌<◌, ◌≤◌, ◌+◌, ◌++◌, ◌∷◌, ◌+ℤ◌, ◌-ℤ◌, pos, [], ℕ, IfOk, OnOk, OnErr, length, replicate, slice_index, slice_set};
+ghost use Rattle.std.specs.Prelude.{◌≡◌, ◌<◌, ◌≤◌, ◌+◌, ◌++◌, ◌∷◌, ◌+ℤ◌, ◌-ℤ◌, pos, [], ℕ, All, List, IfOk, OnOk, vec_capacity, length, replicate, slice_index, slice_set};
 ghost use Rattle.std.specs.List.{list_any};
 ghost use Rattle.spec_model.specs.declared.spec.Spec.{Spec};
+ghost use Rattle.spec_model.specs.declared.log.LogItem.{LogItem as ItemOf};
 ghost use Rattle.spec_model.specs.Fits.{IsWellFormed};
 ghost use Rattle.run_model.specs.Logs.{items_in, log_at};
 ghost use Rattle.run_model.specs.Fitting.{ItemFits};
@@ -13,7 +14,7 @@ ghost use Rattle.run_model.specs.States.{is_first_unfollowed, is_setter, is_unfo
 ghost use Rattle.causal_store.specs.Folds.{all_items, is_setter_past, known_by};
 
 use crate::fold::{has_setter, has_setter_past, join_setters, log_lowers, log_raises};
-use ind_base::{Cut, List, NoMemory};
+use ind_base::{Cut, NoMemory};
 use spec_model::{Atom, Cell, LogItem, Rule, Spec as Specification};
 use std::alloc::Global;
 
@@ -22,7 +23,7 @@ use std::alloc::Global;
 /// The state is that of the set of all acts among them, whatever the order in which they came.
 #[derive(Debug, Drop)]
 pub struct Store {
-    logs: Vec<List<LogItem>>,
+    logs: Vec<Vec<LogItem>>,
     cut: Cut,
 }
 
@@ -64,8 +65,21 @@ fn value_from(spec: &Specification, cell: &Cell, raised: u64, lowered: u64) -> i
     }
 }
 
+/// Puts an item at the end of a log that has room for it.
+fn push_within(log: &mut Vec<LogItem>, item: &LogItem)
+    requires { length log.old.items < vec_capacity log.old }
+    ensures items { log.new.items ≡ log.old.items ++ item.now ∷ [] }
+    ensures room { vec_capacity log.old ≤ vec_capacity log.new }
+{
+    let _so_far = log.as_slice();
+    match log.push(*item) {
+        Ok(()) => {}
+        Err(_) => unreachable!(),
+    }
+}
+
 impl Store {
-    ghost use Rattle.causal_store.specs.Stores.{IsShort, IsStore, cut_in, logs_in};
+    ghost use Rattle.causal_store.specs.Stores.{HasRoomFor, IsShort, IsStore, cut_in, logs_in, room_in};
 
     /// No items, of so many replicas.
     pub fn begin(alloc: Global, replicas: u32) -> Result<Store, NoMemory>
@@ -76,7 +90,7 @@ impl Store {
         let mut logs = Vec::new(alloc);
         let mut cut = Cut::new();
         for _i in 0..replicas {
-            logs.push(List::new(alloc))?;
+            logs.push(Vec::new(alloc))?;
             cut.push(0);
         }
         Ok(Store { logs, cut })
@@ -97,21 +111,45 @@ impl Store {
         self.logs[replica as usize].as_slice()
     }
 
-    /// Applies the next item of its log. Without memory nothing changes.
-    pub fn apply(&mut self, spec: &Specification, item: &LogItem) -> Result<(), NoMemory>
+    /// Makes room for so many more items of a log.
+    fn make_room(&mut self, origin: u32, count: usize) -> Result<(), NoMemory>
+        requires { origin < length (logs_in self.old) }
+        ensures logs { logs_in self.new ≡ logs_in self.old }
+        ensures cut { cut_in self.new ≡ cut_in self.old }
+        ensures room { OnOk result (count ≤ room_in self.new origin) }
+        ensures rooms { (i : ℕ) → room_in self.old i ≤ room_in self.new i }
+    {
+        self.logs[origin as usize].reserve(count)?;
+        Ok(())
+    }
+
+    /// Makes room for these items. The items that were applied stay the same, with and without
+    /// memory.
+    pub fn ready(&mut self, items: &[LogItem]) -> Result<(), NoMemory>
+        requires { All (λ item. item.origin < length (logs_in self.old)) items.now }
+        ensures logs { logs_in self.new ≡ logs_in self.old }
+        ensures cut { cut_in self.new ≡ cut_in self.old }
+        ensures room { OnOk result (HasRoomFor self.new items.now) }
+    {
+        for item in items {
+            self.make_room(item.origin, items.len())?;
+        }
+        Ok(())
+    }
+
+    /// Applies the next item of its log, for which room was made.
+    pub fn apply(&mut self, spec: &Specification, item: &LogItem)
         requires own { IsStore spec.now (length (logs_in self.old)) self.old }
         requires fits { ItemFits spec.now (length (logs_in self.old)) item.now }
         requires next { item.now.index ≡ length (log_at (logs_in self.old) item.now.origin) }
-        ensures applied { OnOk result (logs_in self.new ≡ slice_set (logs_in self.old) item.now.origin (log_at (logs_in self.old) item.now.origin ++ item.now ∷ [])) }
-        ensures own { OnOk result (IsStore spec.now (length (logs_in self.old)) self.new) }
-        ensures err { OnErr result ((logs_in self.new ≡ logs_in self.old) × (cut_in self.new ≡ cut_in self.old)) }
+        requires room { (items : List ItemOf) × HasRoomFor self.old (item.now ∷ items) }
+        ensures applied { logs_in self.new ≡ slice_set (logs_in self.old) item.now.origin (log_at (logs_in self.old) item.now.origin ++ item.now ∷ []) }
+        ensures own { IsStore spec.now (length (logs_in self.old)) self.new }
+        ensures room { (items : List ItemOf) → HasRoomFor self.old (item.now ∷ items) → HasRoomFor self.new items }
     {
         let origin = item.origin as usize;
-        let log = &mut self.logs[origin];
-        let _so_far = log.as_slice();
-        log.push(*item)?;
+        push_within(&mut self.logs[origin], item);
         self.cut.set(origin, item.index + 1);
-        Ok(())
     }
 
     /// The most that the setters of this value have in their pasts.
@@ -213,7 +251,7 @@ impl Store {
     {
         let mut logs = Vec::new(alloc);
         for log in &self.logs {
-            logs.push(log.copy(alloc)?)?;
+            logs.push(Vec::from_slice(alloc, log.as_slice())?)?;
         }
         Ok(Store {
             logs,

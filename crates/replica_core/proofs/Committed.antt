@@ -1,8 +1,8 @@
 -- What was decided is done once its batch is committed.
-use Rattle.std.proofs.Common.{◌≡◌, ◌≢◌, ℕ, zero, suc, ◌+◌, ◌<◌, ◌≤◌, ◌^◌, List, [], ◌∷◌, ◌++◌, length, map, take, drop, refl, sym, ap, subst, ◌∙◌, arith, length-append, length-take}
+use Rattle.std.proofs.Common.{◌≡◌, ◌≢◌, inl, inr, ℕ, zero, suc, ◌+◌, ◌<◌, ◌≤◌, ◌^◌, List, [], ◌∷◌, ◌++◌, length, map, take, drop, refl, sym, ap, subst, ◌∙◌, arith, length-append, length-take}
 use Rattle.std.specs.Prelude.{Some, None, slice_get, slice_index, Result, Ok, Err, OnOk, Contains}
 use Rattle.std.specs.List.{AllByRecursion}
-use Rattle.std.proofs.lemmas.List.{append_assoc, append_cancel_left}
+use Rattle.std.proofs.lemmas.List.{append_assoc, append_cancel_left, take-append-drop}
 use Rattle.std.proofs.lemmas.Option.{slice_get_within}
 use Rattle.spec_model.specs.declared.plan.Setup.{Setup}
 use Rattle.spec_model.specs.declared.instance.Inst.{Inst}
@@ -11,31 +11,32 @@ use Rattle.spec_model.specs.declared.log.Body.{Body}
 use Rattle.spec_model.specs.declared.log.Body.TheVariants as body
 use Rattle.spec_model.specs.declared.log.LogItem.{LogItem}
 use Rattle.spec_model.specs.Fits.{InstFits}
+use Rattle.spec_model.specs.Needs.{needs}
 use Rattle.run_model.specs.declared.batch.Batch.{Batch}
 use Rattle.run_model.specs.declared.message.Message.{Message}
 use Rattle.run_model.specs.declared.step.Outcome.{Outcome}
 use Rattle.run_model.specs.declared.step.Outcome.TheVariants as outcomes
 use Rattle.run_model.specs.Logs.{Logs, item_at, log_at}
-use Rattle.run_model.specs.Worlds.{Standing, logged_all}
-use Rattle.run_model.specs.Steps.{AreAdmitted, accepts_of, answered, cut_after, dropped, received}
-use Rattle.run_model.specs.Fitting.{AreInRow, MessageFits}
+use Rattle.run_model.specs.Worlds.{Sending, Standing, logged, logged_all}
+use Rattle.run_model.specs.Steps.{AreAdmitted, Requests, Takes, accepts_of, answered, cut_after, dropped, received}
+use Rattle.run_model.specs.Fitting.{AreInRow, ItemFits, MessageFits}
 use Rattle.run_model.proofs.Escrow.{spends_held}
-use Rattle.run_model.proofs.Lists.{each_at, each_weaker}
-use Rattle.causal_store.specs.Stores.{cut_in}
-use Rattle.replica_core.specs.Replicas.{HasAnswered, HasLearned, HasLoggedAll, HasTaken, IsKnown, IsReplica, item_of, known_to, own_log, standing_of, with_items}
-use Rattle.replica_core.specs.Decisions.{AreNext, Decides, IsTaken}
+use Rattle.run_model.specs.Rights.{first_lacking, held_of}
+use Rattle.run_model.specs.Wants.{still_wanted}
+use Rattle.run_model.proofs.Lists.{each_append, each_weaker}
+use Rattle.causal_store.specs.Stores.{cut_in, logs_in}
+use Rattle.causal_store.specs.declared.store.Store.{Store}
+use Rattle.replica_core.specs.Tables.{AreHeld}
+use Rattle.replica_core.specs.Replicas.{AreCovered, HasAnswered, HasLearned, HasLoggedAll, HasTaken, IsKnown, IsReplica, KnowsOwn, holds_of, item_of, known_to, own_log, standing_of, with_items}
+use Rattle.replica_core.specs.Decisions.{AreNext, Decides, IsDecided, IsReadyFor, IsTaken, Splits, StaysSame}
+use Rattle.replica_core.specs.declared.decision.Decision.{Decision}
 use Rattle.replica_core.specs.declared.decision.Decision.TheVariants as decision
 use Rattle.replica_core.specs.declared.decision.Taken.{Taken}
 use Rattle.replica_core.specs.declared.replica.Replica.{Replica}
 use Rattle.replica_core.proofs.Finished.{Drops, has_taken, left_answers, left_mine, left_own, left_stands, outs_of}
 use Rattle.replica_core.proofs.Needed.{answered_done}
 use Rattle.replica_core.proofs.Next.{accepts_free, answered_gives, bodies_back, free_next, gives_few, gives_for, gives_next, items_for, items_long, logged_items}
-use Rattle.replica_core.proofs.Received.{Admits, Learns, accepts_few, cut_counts, items_placed, learned_stands, part_of, told_of}
-
--- what follows where a call succeeded
-pub on_ok_then : {T E P Q : Type 0} (r : Result T E) → OnOk r P → (P → Q) → OnOk r Q
-on_ok_then (Ok x) h f = f h
-on_ok_then (Err e) h f = tt
+use Rattle.replica_core.proofs.Received.{Admits, HasReceived, Learns, accepts_few, cut_counts, items_placed, has_received, learned_stands, part_of, told_of}
 
 front_of : {X : Type 0} (xs ys : List X) (n : ℕ) → n ≡ length xs → take n (xs ++ ys) ≡ xs
 front_of [] ys zero is = refl
@@ -78,15 +79,6 @@ start_of message r applied = record (standing_of 0 [] r) { told = told_of messag
 -- how it stands before it answers
 abbrev pub before_of : Setup → Message → Replica → List LogItem → Standing
 before_of setup message r applied = dropped setup (with_items message.from applied (known_to r)) r.me (received r.me message applied (standing_of 0 [] r))
-
--- the batch of a take, cut into its three parts
-pub record Splits (setup : Setup) (message : Message) (r : Replica) (taken : Taken) (front accepts outs : List LogItem) : Type 0 where
-  pub own : IsReplica setup r.me r
-  pub fits : MessageFits setup.spec setup.replicas r.me message
-  pub decided : IsTaken setup message r taken
-  pub front_is : front ≡ take taken.applied taken.batch.items
-  pub accepts_are : accepts ≡ take taken.accepted (drop taken.applied taken.batch.items)
-  pub outs_are : outs ≡ drop taken.accepted (drop taken.applied taken.batch.items)
 
 -- the parts by their meaning
 pub record Parts (setup : Setup) (message : Message) (r : Replica) (taken : Taken) (front accepts outs : List LogItem) : Type 0 where
@@ -215,3 +207,112 @@ accepted_within setup message r taken own fits decided =
     let accepts : List LogItem = take taken.accepted left in
     let parts = parts_of setup message r taken front accepts (drop taken.accepted left) (record { own = own; fits = fits; decided = decided; front_is = refl; accepts_are = refl; outs_are = refl }) in
     omega (arith, parts.accepted_is, ap length parts.accepts_are, items_long r.me (accepts_of r.me front) (start_of message r front), length-take taken.accepted left)
+
+pub joined_back : (n : ℕ) (xs ys zs : List LogItem) → ys ≡ take n xs → zs ≡ drop n xs → xs ≡ ys ++ zs
+joined_back n xs ys zs a b = sym (ap (λ (l : List LogItem). l ++ zs) a ∙ ap (λ (l : List LogItem). take n xs ++ l) b ∙ take-append-drop n xs)
+
+pub received_of : (setup : Setup) (message : Message) (r heard learned new : Replica) (taken : Taken) (front accepts outs : List LogItem) → Splits setup message r taken front accepts outs → Admits setup r.me message r heard front → HasLearned setup.spec front heard learned
+    → HasLoggedAll setup (map (λ (i : LogItem). i.body) accepts) learned new → HasReceived setup message r front new
+received_of setup message r heard learned new taken front accepts outs h admits learns logged =
+    has_received setup message r heard learned new front admits learns (subst (λ (bs : List Body). HasLoggedAll setup bs learned new) (accepts_bodies setup message r taken front accepts outs h) logged)
+
+pub drops_of : (setup : Setup) (message : Message) (r mid left : Replica) (front : List LogItem) → HasReceived setup message r front mid → left ≡ record mid { wants = still_wanted (holds_of setup mid) mid.wants } → Drops setup message r mid left front
+drops_of setup message r mid left front received is = record { received = received; wants = still_wanted (holds_of setup mid) mid.wants; wants_are = refl; left_is = is }
+
+-- ---- room
+
+-- the same store but for its room
+same_store : (setup : Setup) (old : Replica) (s : Store) → IsReplica setup old.me old → logs_in s ≡ known_to old → cut_in s ≡ cut_in old.store → StaysSame setup old (record old { store = s })
+same_store setup old s own logs cut =
+    let me : ℕ = old.me in
+    let back : known_to old ≡ logs_in s = sym logs in
+    let back_cut : cut_in old.store ≡ cut_in s = sym cut in
+    let stand : Logs → List ℕ → ℕ → List Sending → Standing = λ l k stamp sendings. record { log = log_at l me; cut = k; stamp = stamp; wants = old.wants; told = old.told; sendings = sendings } in
+    record {
+      me = refl;
+      own = record {
+        me_is = refl;
+        within = own.within;
+        store = record {
+          whole = ap length logs ∙ own.store.whole;
+          few = own.store.few;
+          counts = cut ∙ own.store.counts ∙ ap (map (λ (l : List LogItem). length l)) back;
+          fits = subst (AllByRecursion (AllByRecursion (ItemFits setup.spec setup.replicas))) back own.store.fits;
+        };
+        own = subst (λ (l : Logs). AreInRow me 0 (log_at l me)) back own.own;
+        known = subst (λ (l : Logs). AllByRecursion (λ (i : LogItem). IsKnown l me i.body) (log_at l me)) back own.known;
+        covered = subst (λ (l : Logs). AreCovered setup l me (log_at l me)) back own.covered;
+        holds = subst (λ (l : Logs). AreHeld setup l me (log_at l me) old.lows) back own.holds;
+        wants = own.wants;
+        few_wants = own.few_wants;
+        told = own.told;
+        told_each = own.told_each;
+      };
+      room = λ n h. subst (λ (l : Logs). length (log_at l me) + n < 2 ^ 32) back h;
+      decides = λ inst d h. same_decision inst d h;
+      taken = λ message taken h. record {
+        applied = h.applied;
+        own = h.own;
+        after = h.after;
+        takes = subst (λ (k : List ℕ). Takes setup (with_items message.from h.applied (logs_in s)) me message h.applied (stand (logs_in s) k 0 []) (outcomes.Took message.number taken.applied taken.accepted taken.gave) h.after) back_cut
+            (subst (λ (l : Logs). Takes setup (with_items message.from h.applied l) me message h.applied (stand l (cut_in old.store) 0 []) (outcomes.Took message.number taken.applied taken.accepted taken.gave) h.after) back h.takes);
+        longer = subst (λ (l : Logs). h.after.log ≡ log_at l me ++ h.own) back h.longer;
+        batch = h.batch;
+      };
+      answered = λ inst outcome last h. record {
+        own = h.own;
+        requests = λ stamp sendings. subst (λ (k : List ℕ). Requests setup (known_to old) me inst (stand (known_to old) k stamp sendings) outcome (standing_of stamp sendings last)) cut
+            (subst (λ (l : Logs). Requests setup l me inst (stand l (cut_in s) stamp sendings) outcome (standing_of stamp sendings last)) logs (h.requests stamp sendings));
+        knows = subst (λ (l : Logs). KnowsOwn l last) logs h.knows;
+        grown = subst (λ (l : Logs). length (own_log last) ≤ length (log_at l me) + 1) logs h.grown;
+      };
+      took = λ message outcome last h. record {
+        own = h.own;
+        applied = h.applied;
+        takes = λ stamp sendings. subst (λ (k : List ℕ). Takes setup (with_items message.from h.applied (known_to old)) me message h.applied (stand (known_to old) k stamp sendings) outcome (standing_of stamp sendings last)) cut
+            (subst (λ (l : Logs). Takes setup (with_items message.from h.applied l) me message h.applied (stand l (cut_in s) stamp sendings) outcome (standing_of stamp sendings last)) logs (h.takes stamp sendings));
+        knows = subst (λ (l : Logs). KnowsOwn (with_items message.from h.applied l) last) logs h.knows;
+        grown = subst (λ (l : Logs). length (own_log last) ≤ length (log_at l me) + 24) logs h.grown;
+      };
+    }
+  where
+    same_decision : (inst : Inst) (d : Decision) → Decides setup inst old d → Decides setup inst (record old { store = s }) d
+    same_decision inst (decision.Breaks broken) h = h
+    same_decision inst (decision.Short lacking) h = (subst (λ (l : Logs). first_lacking (λ need. held_of setup l old.me (log_at l old.me) need) (needs setup inst) ≡ Some lacking) (sym logs) h.0, h.1)
+    same_decision inst (decision.Act batch) h = (
+      subst (λ (l : Logs). first_lacking (λ need. held_of setup l old.me (log_at l old.me) need) (needs setup inst) ≡ None) (sym logs) h.0,
+      h.1 ∙ ap (λ (l : Logs). record { origin = old.me; index = length (log_at l old.me); deps = cut_in old.store; body = body.Act inst } ∷ []) (sym logs) ∙ ap (λ (k : List ℕ). record { origin = old.me; index = length (log_at (logs_in s) old.me); deps = k; body = body.Act inst } ∷ []) (sym cut),
+    )
+
+pub stays_same : (setup : Setup) (old new : Replica) → IsReplica setup old.me old → new ≡ record old { store = new.store } → logs_in new.store ≡ known_to old → cut_in new.store ≡ cut_in old.store → StaysSame setup old new
+stays_same setup old new own kept logs cut = subst (StaysSame setup old) (sym kept) (same_store setup old new.store own logs cut)
+
+-- the item is of one of so many replicas
+abbrev pub IsOfOne : ℕ → LogItem → Type 0
+IsOfOne replicas i = i.origin < replicas
+
+-- all items that it decided on are of replicas
+pub decided_origins : (setup : Setup) (r : Replica) (batch : Batch) → IsReplica setup r.me r → IsDecided setup r batch → AllByRecursion (λ item. item.origin < setup.replicas) batch.items
+decided_origins setup r batch own (inl act) = subst (AllByRecursion (λ (i : LogItem). i.origin < setup.replicas)) (sym act.2.1) (own.within, tt)
+decided_origins setup r batch own (inr take_one) =
+    let message : Message = take_one.0 in
+    let taken : Taken = take_one.1 in
+    let fits = take_one.2 in
+    let decided = take_one.3 in
+    let items : List LogItem = taken.batch.items in
+    let left : List LogItem = drop taken.applied items in
+    let parts = parts_of setup message r taken (take taken.applied items) (take taken.accepted left) (drop taken.accepted left) (record { own = own; fits = fits; decided = decided; front_is = refl; accepts_are = refl; outs_are = refl }) in
+    let part = part_of setup r.me message (cut_in r.store) (take taken.applied items) fits parts.admitted in
+    let front : List LogItem = take taken.applied items in
+    let logs : Logs = with_items message.from front (known_to r) in
+    let before : Standing = before_of setup message r front in
+    let gives : List Body = gives_for setup logs r.me message.from message.wants before in
+    let outs_are : drop taken.accepted left ≡ items_for r.me gives before =
+    append_cancel_left before.log (drop taken.accepted left) (items_for r.me gives before) (sym parts.outs_end ∙ ap (λ (p : Standing). p.log) (answered_gives setup logs r.me message.from message.wants before) ∙ logged_items r.me gives before) in
+    let own_part = each_append (IsOfOne setup.replicas) (take taken.accepted left) (drop taken.accepted left) (subst (AllByRecursion (IsOfOne setup.replicas)) (sym parts.accepts_are) (all_own (accepts_of r.me front) (start_of message r front))) (subst (AllByRecursion (IsOfOne setup.replicas)) (sym outs_are) (all_own gives before)) in
+    let all = each_append (IsOfOne setup.replicas) front left (each_weaker (ItemFits setup.spec setup.replicas) (IsOfOne setup.replicas) (λ i h. h.origin) front part.fits) (subst (AllByRecursion (IsOfOne setup.replicas)) (sym (joined_back taken.accepted left (take taken.accepted left) (drop taken.accepted left) refl refl)) own_part) in
+    subst (λ (b : Batch). AllByRecursion (IsOfOne setup.replicas) b.items) take_one.4 (subst (AllByRecursion (IsOfOne setup.replicas)) (sym (joined_back taken.applied items front left refl refl)) all)
+  where
+    all_own : (bodies : List Body) (p : Standing) → AllByRecursion (IsOfOne setup.replicas) (items_for r.me bodies p)
+    all_own [] p = tt
+    all_own (b ∷ bodies) p = (own.within, all_own bodies (logged r.me b p))

@@ -1,5 +1,5 @@
 -- What a replica does with a message, from the first to the last.
-use Rattle.std.proofs.Common.{◌≡◌, ℕ, ◌≤◌, Bool, true, false, cond, List, [], ◌∷◌, length, filter, refl, sym, ap, subst, ◌∙◌, arith}
+use Rattle.std.proofs.Common.{◌≡◌, ℕ, ◌+◌, ◌<◌, ◌≤◌, Bool, true, false, cond, List, [], ◌∷◌, ◌++◌, length, drop, take, filter, refl, sym, ap, subst, ◌∙◌, arith, length-append, length-drop, length-take}
 use Rattle.std.specs.Prelude.{not}
 use Rattle.std.specs.List.{AllByRecursion}
 use Rattle.spec_model.specs.declared.plan.Setup.{Setup}
@@ -16,12 +16,12 @@ use Rattle.run_model.specs.Worlds.{Standing, Sending, holding, logged_all}
 use Rattle.run_model.specs.Steps.{accepts_of, answered, dropped, received}
 use Rattle.run_model.specs.Wants.{need_of, still_wanted}
 use Rattle.run_model.specs.Fitting.{WantFits}
-use Rattle.run_model.proofs.Lists.{each_filter, each_weaker}
+use Rattle.run_model.proofs.Lists.{each_append, each_filter, each_take, each_weaker}
 use Rattle.run_model.proofs.Agreed.{answered_agree}
 use Rattle.replica_core.specs.Replicas.{HasLoggedAll, HasTaken, IsReplica, KnowsOwn, holds_of, known_to, own_log, standing_of, with_items}
 use Rattle.replica_core.specs.declared.replica.Replica.{Replica}
 use Rattle.replica_core.proofs.Logged.{all_agree}
-use Rattle.replica_core.proofs.Needed.{heard_replica}
+use Rattle.replica_core.proofs.Needed.{each_dropped, heard_replica}
 use Rattle.replica_core.proofs.Changes.{holds_known, knows_both, longer_by, others_known, own_again}
 use Rattle.replica_core.proofs.Next.{answered_gives, gives_few, gives_for, gives_stamped}
 use Rattle.replica_core.proofs.Received.{HasReceived}
@@ -47,6 +47,28 @@ dropped_own setup mid wants own is =
       is = refl;
       fit = subst (AllByRecursion (WantFits setup.spec)) (sym is) (each_weaker (λ (w : Want). WantFits setup.spec w × (test w ≡ true)) (WantFits setup.spec) (λ w h. h.0) (filter test mid.wants) both);
       few = omega (arith, ap length is, short, own.few_wants);
+      whole = own.told;
+      each = own.told_each;
+    })
+
+-- with some of its wants in another order it is a replica still
+pub kept_few : (setup : Setup) (old : Replica) (wants : List Want) (k : ℕ) → length old.wants ≤ 8 → k < length old.wants → wants ≡ drop (k + 1) old.wants ++ still_wanted (holds_of setup old) (take k old.wants) → length wants < 8
+kept_few setup old wants k few lt is =
+    let short = filter_short (λ (w : Want). not (is_met (holds_of setup old) (need_of w))) (take k old.wants) in
+    omega (arith, few, lt, ap length is, length-append (drop (k + 1) old.wants) (still_wanted (holds_of setup old) (take k old.wants)), length-drop (k + 1) old.wants, short, length-take k old.wants)
+
+pub keeps_own : (setup : Setup) (old : Replica) (wants : List Want) (k : ℕ) → IsReplica setup old.me old → k < length old.wants → wants ≡ drop (k + 1) old.wants ++ still_wanted (holds_of setup old) (take k old.wants) → IsReplica setup old.me (record old { wants = wants })
+keeps_own setup old wants k own lt is =
+    let test : Want → Bool = λ w. not (is_met (holds_of setup old) (need_of w)) in
+    let fit : Want → Type 0 = WantFits setup.spec in
+    let seen : AllByRecursion fit (filter test (take k old.wants)) = each_weaker (λ (w : Want). fit w × (test w ≡ true)) fit (λ w h. h.0) (filter test (take k old.wants)) (each_filter fit test (take k old.wants) (each_take fit k old.wants own.wants)) in
+    let few = kept_few setup old wants k own.few_wants lt is in
+    heard_replica setup old.me old (record old { wants = wants }) own (record {
+      wants = wants;
+      told = old.told;
+      is = refl;
+      fit = subst (AllByRecursion fit) (sym is) (each_append fit (drop (k + 1) old.wants) (filter test (take k old.wants)) (each_dropped fit (k + 1) old.wants own.wants) seen);
+      few = omega (arith, few);
       whole = own.told;
       each = own.told_each;
     })

@@ -4,6 +4,7 @@ pub mod Logged
 pub mod Begun
 pub mod Wanted
 pub mod Lists
+pub mod Rotated
 pub mod Changes
 pub mod Needed
 pub mod Received

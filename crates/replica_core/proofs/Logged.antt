@@ -29,10 +29,10 @@ use Rattle.replica_core.specs.Replicas.{HasLogged, IsKnown, IsReplica, item_of, 
 use Rattle.replica_core.specs.declared.replica.Replica.{Replica}
 use Rattle.replica_core.proofs.Counts.{in_universe}
 
--- what follows from all clauses of a call that succeeded
-pub on_ok_all : {T E P Q R S : Type 0} (r : Result T E) → OnOk r P → OnOk r Q → OnOk r R → (P → Q → R → S) → OnOk r S
-on_ok_all (Ok x) p q r f = f p q r
-on_ok_all (Err e) p q r f = tt
+-- what follows where a call succeeded
+pub on_ok_then : {T E P Q : Type 0} (r : Result T E) → OnOk r P → (P → Q) → OnOk r Q
+on_ok_then (Ok x) h f = f h
+on_ok_then (Err e) h f = tt
 
 -- ---- logs that agree but for the own one
 

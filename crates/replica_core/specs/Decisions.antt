@@ -1,22 +1,26 @@
 -- What a replica decides by itself, and what it commits.
-use Rattle.std.specs.Prelude.{◌≡◌, ℕ, ◌≤◌, List, [], ◌∷◌, ◌++◌, length, Some, None, Contains}
+use Rattle.std.specs.Prelude.{◌≡◌, ◌⊎◌, ℕ, ◌≤◌, List, [], ◌∷◌, ◌++◌, length, drop, take, Some, None, Contains}
 use Rattle.spec_model.specs.declared.plan.Setup.{Setup}
 use Rattle.spec_model.specs.declared.instance.Inst.{Inst}
 use Rattle.spec_model.specs.declared.instance.Cell.{Cell}
 use Rattle.spec_model.specs.declared.right.Right.TheVariants as right
 use Rattle.spec_model.specs.declared.log.Body.TheVariants as body
 use Rattle.spec_model.specs.declared.log.LogItem.{LogItem}
+use Rattle.spec_model.specs.Fits.{InstFits}
 use Rattle.spec_model.specs.Universe.{cells}
 use Rattle.spec_model.specs.Needs.{needs}
 use Rattle.run_model.specs.declared.message.Message.{Message}
+use Rattle.run_model.specs.declared.batch.Batch.{Batch}
+use Rattle.run_model.specs.declared.step.Outcome.{Outcome}
 use Rattle.run_model.specs.declared.step.Outcome.TheVariants as outcomes
 use Rattle.run_model.specs.Logs.{Logs}
 use Rattle.run_model.specs.Rights.{body_loses, first_lacking, held_count}
 use Rattle.run_model.specs.Worlds.{Standing, logged}
 use Rattle.run_model.specs.Steps.{Takes}
-use Rattle.run_model.specs.Fitting.{BodyFits}
+use Rattle.run_model.specs.Fitting.{BodyFits, MessageFits}
+use Rattle.causal_store.specs.Stores.{HasRoomFor}
 use Rattle.replica_core.specs.Tables.{NeedFits}
-use Rattle.replica_core.specs.Replicas.{IsKnown, holds_of, item_of, known_to, own_log, standing_of, with_items}
+use Rattle.replica_core.specs.Replicas.{HasAnswered, HasRoom, HasTaken, IsKnown, IsReplica, holds_of, item_of, known_to, own_log, standing_of, with_items}
 use Rattle.replica_core.specs.declared.decision.Decision.{Decision}
 use Rattle.replica_core.specs.declared.decision.Decision.TheVariants as decision
 use Rattle.replica_core.specs.declared.decision.Taken.{Taken}
@@ -37,6 +41,15 @@ pub record IsTaken (setup : Setup) (message : Message) (r : Replica) (taken : Ta
   pub longer : after.log ≡ own_log r ++ own
   pub batch : taken.batch.items ≡ applied ++ own
 
+-- the batch of a take, cut into its three parts
+pub record Splits (setup : Setup) (message : Message) (r : Replica) (taken : Taken) (front accepts outs : List LogItem) : Type 0 where
+  pub own : IsReplica setup r.me r
+  pub fits : MessageFits setup.spec setup.replicas r.me message
+  pub decided : IsTaken setup message r taken
+  pub front_is : front ≡ take taken.applied taken.batch.items
+  pub accepts_are : accepts ≡ take taken.accepted (drop taken.applied taken.batch.items)
+  pub outs_are : outs ≡ drop taken.accepted (drop taken.applied taken.batch.items)
+
 -- an item that replica me may log next, by the logs that it knows: it has all that was seen in its past, and what it loses is held
 pub record IsNext (setup : Setup) (logs : Logs) (me : ℕ) (p : Standing) (item : LogItem) : Type 0 where
   pub is : item ≡ record { origin = me; index = length p.log; deps = p.cut; body = item.body }
@@ -48,3 +61,23 @@ pub record IsNext (setup : Setup) (logs : Logs) (me : ℕ) (p : Standing) (item 
 abbrev pub AreNext : Setup → Logs → ℕ → Standing → List LogItem → Type 0
 AreNext setup logs me p [] = Unit {0}
 AreNext setup logs me p (item ∷ items) = IsNext setup logs me p item × AreNext setup logs me (logged me item.body p) items
+
+-- room was made for these items
+abbrev pub IsReadyFor : Replica → List LogItem → Type 0
+IsReadyFor r items = HasRoomFor r.store items
+
+-- it decided on this batch, of a request or of a message
+abbrev pub IsDecided : Setup → Replica → Batch → Type 0
+IsDecided setup r batch =
+    ((inst : Inst) × InstFits setup.spec inst × Decides setup inst r (decision.Act batch))
+    ⊎ ((message : Message) × (taken : Taken) × MessageFits setup.spec setup.replicas r.me message × IsTaken setup message r taken × (taken.batch ≡ batch))
+
+-- nothing is known of the one replica that isn't known of the other: it decides the same, and what comes of it is the same
+pub record StaysSame (setup : Setup) (old new : Replica) : Type 0 where
+  pub me : new.me ≡ old.me
+  pub own : IsReplica setup old.me new
+  pub room : (n : ℕ) → HasRoom n old → HasRoom n new
+  pub decides : (inst : Inst) (d : Decision) → Decides setup inst old d → Decides setup inst new d
+  pub taken : (message : Message) (taken : Taken) → IsTaken setup message old taken → IsTaken setup message new taken
+  pub answered : (inst : Inst) (outcome : Outcome) (last : Replica) → HasAnswered setup inst new outcome last → HasAnswered setup inst old outcome last
+  pub took : (message : Message) (outcome : Outcome) (last : Replica) → HasTaken setup message new outcome last → HasTaken setup message old outcome last

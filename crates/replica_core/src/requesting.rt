@@ -16,7 +16,7 @@ ghost use Rattle.replica_core.specs.Tables.{HasNoUpper, NeedFits, low_need};
 
 use crate::decision::Decision;
 use crate::replica::Replica;
-use crate::wanting::{less, noted as noted_wants};
+use crate::wanting::less;
 use causal_delivery::next_items;
 use effect_model::escrow_needs;
 use ind_base::{List, NoMemory};
@@ -28,7 +28,7 @@ use std::alloc::Global;
 
 impl Replica {
     ghost use Rattle.replica_core.specs.Replicas.{HasAnswered, HasRoom, IsReplica, holds_of, item_of, known_to, own_log, standing_of};
-    ghost use Rattle.replica_core.specs.Decisions.{Decides};
+    ghost use Rattle.replica_core.specs.Decisions.{Decides, IsReadyFor};
 
     /// The need of so many rights to lower a cell, if fewer are held.
     fn lacking_low(&self, setup: &Setup, cell: &Cell, count: u64) -> Option<Lacking>
@@ -116,9 +116,8 @@ impl Replica {
     }
 
     /// Wants what is needed.
-    fn want(&mut self, alloc: Global, need: &Need) -> Result<(), NoMemory>
-        requires few { length self.old.wants ≤ 8 }
-        ensures { OnOk result (self.new ≡ record self.old { wants = noted self.old.wants (want_of need.now) }) }
+    fn want(&mut self, need: &Need)
+        ensures { self.new ≡ record self.old { wants = noted self.old.wants (want_of need.now) } }
     {
         let ask = match &need.amount {
             Amount::Count(count) => WantAsk::Count(*count),
@@ -130,27 +129,26 @@ impl Replica {
             right: need.right,
             ask,
         };
-        self.wants = noted_wants(alloc, self.wants.as_slice(), &want)?;
-        Ok(())
+        self.wants.note(&want);
     }
 
     /// Wants from now on what it answered that it is short of.
-    pub fn note(&mut self, alloc: Global, lacking: &Lacking) -> Result<(), NoMemory>
-        requires few { length self.old.wants ≤ 8 }
-        ensures { OnOk result ((setup : SetupOf) (inst : InstOf) → IsReplica setup self.old.me self.old → Decides setup inst self.old (decision.Short lacking.now) → HasAnswered setup inst self.old (outcomes.Short lacking.now) self.new) }
+    pub fn note(&mut self, lacking: &Lacking)
+        ensures { (setup : SetupOf) (inst : InstOf) → IsReplica setup self.old.me self.old → Decides setup inst self.old (decision.Short lacking.now) → HasAnswered setup inst self.old (outcomes.Short lacking.now) self.new }
     {
-        self.want(alloc, &lacking.need)
+        self.want(&lacking.need);
     }
 
-    /// Does what it answered to a request. A replica that ran out of memory is of no more use.
-    pub fn commit_act(&mut self, setup: &Setup, batch: &Batch) -> Result<(), NoMemory>
+    /// Does what it answered to a request, for which room was made.
+    pub fn commit_act(&mut self, setup: &Setup, batch: &Batch)
         requires well_formed { IsWellFormed setup.now.spec }
         requires own { IsReplica setup.now self.old.me self.old }
         requires decided { (inst : InstOf) × InstFits setup.now.spec inst × Decides setup.now inst self.old (decision.Act batch.now) }
         requires room { HasRoom 1 self.old }
-        ensures { OnOk result ((inst : InstOf) → Decides setup.now inst self.old (decision.Act batch.now) → HasAnswered setup.now inst self.old (outcomes.Done (length (own_log self.old))) self.new) }
+        requires ready { IsReadyFor self.old batch.now.items }
+        ensures { (inst : InstOf) → Decides setup.now inst self.old (decision.Act batch.now) → HasAnswered setup.now inst self.old (outcomes.Done (length (own_log self.old))) self.new }
     {
-        self.put_all(setup, batch.items.as_slice())
+        self.put_all(setup, batch.items.as_slice());
     }
 
     /// How many items of its own log a replica is known to have seen.

@@ -1,21 +1,22 @@
 //! What a replica does with a message.
 
-ghost use Rattle.std.specs.Prelude.{◌≡◌, ◌<◌, ◌++◌, ◌∷◌, [], IfOk, OnOk, length, slice_set, slice_index_or, Contains};
+ghost use Rattle.std.specs.Prelude.{◌≡◌, ◌<◌, ◌++◌, ◌∷◌, [], List, length, slice_set, slice_index_or, Contains};
 ghost use Rattle.spec_model.specs.Fits.{IsWellFormed};
 ghost use Rattle.run_model.specs.Fitting.{MessageFits, WantFits};
 ghost use Rattle.run_model.specs.Rights.{is_met};
+ghost use Rattle.spec_model.specs.declared.log.LogItem.{LogItem as ItemOf};
 ghost use Rattle.spec_model.specs.Universe.{cells};
 ghost use Rattle.run_model.specs.declared.step.Outcome.TheVariants as outcomes;
+ghost use Rattle.replica_core.specs.declared.decision.Taken.{Taken as TakenOf};
 ghost use Rattle.replica_core.specs.Tables.{low_need};
 ghost use Rattle.run_model.specs.Wants.{need_of, still_wanted};
 ghost use Rattle.run_model.specs.Worlds.{joined as joined_with};
 
 use crate::decision::Taken;
 use crate::replica::Replica;
-use ind_base::{Cut, List, NoMemory};
+use ind_base::Cut;
 use run_model::Message;
 use spec_model::{Cell, LogItem, Right, Setup, Spec, Want, WantAsk};
-use std::alloc::Global;
 
 /// The greater count at each place.
 fn joined(a: &Cut, b: &Cut) -> Cut
@@ -31,7 +32,7 @@ fn joined(a: &Cut, b: &Cut) -> Cut
 
 impl Replica {
     ghost use Rattle.replica_core.specs.Replicas.{CanLearn, HasLearned, HasRoom, HasTaken, IsReplica, holds_of};
-    ghost use Rattle.replica_core.specs.Decisions.{IsTaken};
+    ghost use Rattle.replica_core.specs.Decisions.{IsReadyFor, IsTaken, Splits};
 
     /// Keeps the greatest cut that was told.
     fn hear(&mut self, message: &Message)
@@ -45,14 +46,15 @@ impl Replica {
     }
 
     /// Applies the next items of another log.
-    fn learn(&mut self, spec: &Spec, items: &[LogItem]) -> Result<(), NoMemory>
+    fn learn(&mut self, spec: &Spec, items: &[LogItem])
         requires store { CanLearn spec.now self.old items.now }
-        ensures { OnOk result (HasLearned spec.now items.now self.old self.new) }
+        requires ready { (more : List ItemOf) × IsReadyFor self.old (items.now ++ more) }
+        ensures learned { HasLearned spec.now items.now self.old self.new }
+        ensures ready { (more : List ItemOf) → IsReadyFor self.old (items.now ++ more) → IsReadyFor self.new more }
     {
         for item in items {
-            self.store.apply(spec, item)?;
+            self.store.apply(spec, item);
         }
-        Ok(())
     }
 
     /// Whether so many rights to lower a cell are held.
@@ -84,52 +86,66 @@ impl Replica {
         }
     }
 
-    /// Adds a want that isn't met at the end.
-    fn push_unmet(&self, setup: &Setup, wants: &mut List<Want>, want: &Want) -> Result<(), NoMemory>
+    /// Wants again what isn't met.
+    fn keep_unmet(&mut self, setup: &Setup, want: &Want)
         requires well_formed { IsWellFormed setup.now.spec }
-        requires own { IsReplica setup.now self.now.me self.now }
+        requires own { IsReplica setup.now self.old.me self.old }
         requires fits { WantFits setup.now.spec want.now }
-        requires room { HasRoom 0 self.now }
-        ensures { OnOk result (wants.new ≡ wants.old ++ still_wanted (holds_of setup.now self.now) (want.now ∷ [])) }
+        requires room { HasRoom 0 self.old }
+        requires few { length self.old.wants < 8 }
+        ensures { self.new ≡ record self.old { wants = self.old.wants ++ still_wanted (holds_of setup.now self.old) (want.now ∷ []) } }
     {
-        let _so_far = wants.as_slice();
-        if self.is_met(setup, want) {
-            Ok(())
-        } else {
-            wants.push(*want)
+        if !self.is_met(setup, want) {
+            self.wants.put_last(want);
         }
     }
 
-    /// The wants that aren't met.
-    fn unmet(&self, alloc: Global, setup: &Setup) -> Result<List<Want>, NoMemory>
+    /// Drops the wants that are met.
+    fn drop_met(&mut self, setup: &Setup)
         requires well_formed { IsWellFormed setup.now.spec }
-        requires own { IsReplica setup.now self.now.me self.now }
-        requires room { HasRoom 0 self.now }
-        ensures { IfOk result (λ l. l ≡ still_wanted (holds_of setup.now self.now) self.now.wants) }
+        requires own { IsReplica setup.now self.old.me self.old }
+        requires room { HasRoom 0 self.old }
+        ensures { self.new ≡ record self.old { wants = still_wanted (holds_of setup.now self.old) self.old.wants } }
     {
-        let mut wants = List::new(alloc);
-        for want in self.wants.as_slice() {
-            self.push_unmet(setup, &mut wants, want)?;
+        for _k in 0..self.wants.len() {
+            let want = self.wants.take_first();
+            self.keep_unmet(setup, &want);
         }
-        Ok(wants)
     }
 
-    /// Does what it decided on a message: hears what the sender has seen, applies and logs the items of
-    /// the batch, and drops the wants that are met once it has accepted. A replica that ran out of
-    /// memory is of no more use.
-    pub fn commit_take(
+    /// Hears what the sender has seen, applies items of it, logs the Accepts, drops the wants that
+    /// are met then, and logs the Outs.
+    fn do_all(
         &mut self,
-        alloc: Global,
         setup: &Setup,
         message: &Message,
-        taken: &Taken,
-    ) -> Result<(), NoMemory>
+        applied: &[LogItem],
+        accepts: &[LogItem],
+        outs: &[LogItem],
+    )
+        requires well_formed { IsWellFormed setup.now.spec }
+        requires splits { (taken : TakenOf) × Splits setup.now message.now self.old taken applied.now accepts.now outs.now }
+        requires room { HasRoom 24 self.old }
+        requires ready { IsReadyFor self.old (applied.now ++ (accepts.now ++ outs.now)) }
+        ensures { (taken : TakenOf) → Splits setup.now message.now self.old taken applied.now accepts.now outs.now → HasTaken setup.now message.now self.old (outcomes.Took message.now.number taken.applied taken.accepted taken.gave) self.new }
+    {
+        self.hear(message);
+        self.learn(&setup.spec, applied);
+        self.put_all(setup, accepts);
+        self.drop_met(setup);
+        self.put_all(setup, outs);
+    }
+
+    /// Does what it decided on a message, for which room was made: hears what the sender has seen,
+    /// applies and logs the items of the batch, and drops the wants that are met once it has accepted.
+    pub fn commit_take(&mut self, setup: &Setup, message: &Message, taken: &Taken)
         requires well_formed { IsWellFormed setup.now.spec }
         requires own { IsReplica setup.now self.old.me self.old }
         requires fits { MessageFits setup.now.spec setup.now.replicas self.old.me message.now }
         requires decided { IsTaken setup.now message.now self.old taken.now }
         requires room { HasRoom 24 self.old }
-        ensures { OnOk result (HasTaken setup.now message.now self.old (outcomes.Took message.now.number taken.now.applied taken.now.accepted taken.now.gave) self.new) }
+        requires ready { IsReadyFor self.old taken.now.batch.items }
+        ensures { HasTaken setup.now message.now self.old (outcomes.Took message.now.number taken.now.applied taken.now.accepted taken.now.gave) self.new }
     {
         let (applied, own) = taken
             .batch
@@ -137,10 +153,6 @@ impl Replica {
             .as_slice()
             .split_at(taken.applied as usize);
         let (accepts, outs) = own.split_at(taken.accepted as usize);
-        self.hear(message);
-        self.learn(&setup.spec, applied)?;
-        self.put_all(setup, accepts)?;
-        self.wants = self.unmet(alloc, setup)?;
-        self.put_all(setup, outs)
+        self.do_all(setup, message, applied, accepts, outs);
     }
 }

@@ -1,15 +1,16 @@
 //! Wants: what a replica lacked, and what is given to one who asks.
 
-ghost use Rattle.std.specs.Prelude.{◌≡◌, ◌<◌, ◌≤◌, ◌+◌, ◌-◌, ◌/◌, ◌^◌, IfOk, length, min};
+ghost use Rattle.std.specs.Prelude.{◌≡◌, ◌<◌, ◌≤◌, ◌+◌, ◌-◌, ◌/◌, ◌^◌, ◌++◌, ◌∷◌, [], IfOk, if◌then◌else◌, length, min};
 ghost use Rattle.std.specs.List.{list_any};
 ghost use Rattle.std.specs.Str.{bytes_eq as same_numbers};
 ghost use Rattle.spec_model.specs.Changes as changes;
 ghost use Rattle.run_model.specs.Rights as rights;
 ghost use Rattle.run_model.specs.Wants as wanted;
 
-use ind_base::{List, NoMemory};
+use ind_base::NoMemory;
 use spec_model::{Cell, Right, Want};
 use std::alloc::Global;
+use std::marker::Model;
 
 /// The most wants that are kept.
 const WANTS: usize = 8;
@@ -76,44 +77,108 @@ fn is_wanted(wants: &[Want], right: &Right) -> bool
     false
 }
 
-/// The wants, where those on the same right are replaced.
-fn replaced(alloc: Global, wants: &[Want], want: &Want) -> Result<List<Want>, NoMemory>
-    ensures { IfOk result (λ l. l ≡ wanted.replaced wants.now want.now) }
+/// A want, or the new one in its place if that is on the same right.
+fn instead_of(old: &Want, want: &Want) -> Want
+    ensures { result ≡ (if wanted.is_on want.now.right old.now then want.now else old.now) }
 {
-    let mut made = List::new(alloc);
-    for old in wants {
-        let _so_far = made.as_slice();
-        made.push(if same_right(&old.right, &want.right) {
-            *want
-        } else {
-            *old
-        })?;
-    }
-    Ok(made)
-}
-
-/// The wants with this one behind them, of more than eight without the first.
-fn behind(alloc: Global, wants: &[Want], want: &Want) -> Result<List<Want>, NoMemory>
-    requires { length wants.now ≤ 8 }
-    ensures { IfOk result (λ l. l ≡ wanted.behind wants.now want.now) }
-{
-    let (_, kept) = wants.split_at(wants.len().saturating_sub(WANTS - 1));
-    let mut made = List::from_slice(alloc, kept)?;
-    let _so_far = made.as_slice();
-    made.push(*want)?;
-    Ok(made)
-}
-
-/// The wants once one is noted: it takes the place of one on the same right, and else goes last,
-/// where of more than eight the first is dropped.
-pub(crate) fn noted(alloc: Global, wants: &[Want], want: &Want) -> Result<List<Want>, NoMemory>
-    requires { length wants.now ≤ 8 }
-    ensures { IfOk result (λ l. l ≡ wanted.noted wants.now want.now) }
-{
-    if is_wanted(wants, &want.right) {
-        replaced(alloc, wants, want)
+    if same_right(&old.right, &want.right) {
+        *want
     } else {
-        behind(alloc, wants, want)
+        *old
+    }
+}
+
+/// What a replica lacked: at most eight wants, for which there is always room.
+#[derive(Debug, Drop)]
+pub(crate) struct Wants {
+    items: Vec<Want>,
+}
+
+impl Model for Wants {
+    ghost use Rattle.std.specs.Prelude.{◌≤◌, List, length, vec_capacity};
+    ghost use Rattle.spec_model.specs.declared.right.Want.{Want as WantOf};
+
+    ghost Value = { List WantOf };
+
+    ghost view = { λ w. w.items.items };
+
+    ghost invariant = { λ w. (length w.items.items ≤ 8) × (8 ≤ vec_capacity w.items) };
+}
+
+impl Wants {
+    /// No wants.
+    pub(crate) fn begin(alloc: Global) -> Result<Wants, NoMemory>
+        ensures { IfOk result (λ w. w ≡ []) }
+    {
+        let items = Vec::with_capacity(alloc, WANTS)?;
+        Ok(Wants { items })
+    }
+
+    /// How many there are.
+    pub(crate) fn len(&self) -> usize
+        ensures value { result ≡ length self.now }
+        ensures few { result ≤ 8 }
+    {
+        self.items.len()
+    }
+
+    /// The wants in their order.
+    pub(crate) fn as_slice(&self) -> &[Want]
+        ensures value { result.now ≡ self.now }
+    {
+        self.items.as_slice()
+    }
+
+    /// Takes the first one out.
+    pub(crate) fn take_first(&mut self) -> Want
+        requires { 0 < length self.old }
+        ensures { self.old ≡ result ∷ self.new }
+    {
+        self.items.remove(0)
+    }
+
+    /// Puts one at the end of fewer than eight.
+    pub(crate) fn put_last(&mut self, want: &Want)
+        requires { length self.old < 8 }
+        ensures { self.new ≡ self.old ++ want.now ∷ [] }
+    {
+        let _so_far = self.items.as_slice();
+        match self.items.push(*want) {
+            Ok(()) => {}
+            Err(_) => unreachable!(),
+        }
+    }
+
+    /// Replaces those on the same right.
+    fn replace(&mut self, want: &Want)
+        ensures { self.new ≡ wanted.replaced self.old want.now }
+    {
+        for _k in 0..self.len() {
+            let old = self.take_first();
+            self.put_last(&instead_of(&old, want));
+        }
+    }
+
+    /// Puts one at the end; of more than eight the first is dropped.
+    fn put_behind(&mut self, want: &Want)
+        ensures { self.new ≡ wanted.behind self.old want.now }
+    {
+        if self.len() == WANTS {
+            self.take_first();
+        }
+        self.put_last(want);
+    }
+
+    /// Notes a want: it takes the place of one on the same right, and else goes last, where of more
+    /// than eight the first is dropped.
+    pub(crate) fn note(&mut self, want: &Want)
+        ensures { self.new ≡ wanted.noted self.old want.now }
+    {
+        if is_wanted(self.as_slice(), &want.right) {
+            self.replace(want);
+        } else {
+            self.put_behind(want);
+        }
     }
 }
 

@@ -38,7 +38,8 @@ fn act(setup: &Setup, replica: &mut Replica, batch: &Batch) -> Result<Outcome, N
     ensures { IfOk result (λ outcome. (inst : InstOf) → Decides setup.now inst replica.old (decision.Act batch.now) → HasAnswered setup.now inst replica.old outcome replica.new) }
 {
     let index = batch.items.as_slice()[0].index;
-    replica.commit_act(setup, batch)?;
+    replica.ready(setup, batch)?;
+    replica.commit_act(setup, batch);
     Ok(Outcome::Done { index })
 }
 
@@ -59,7 +60,7 @@ fn answer(
     match replica.request(alloc, setup, inst)? {
         Decision::Breaks(broken) => Ok(Outcome::Breaks(broken)),
         Decision::Short(lacking) => {
-            replica.note(alloc, &lacking)?;
+            replica.note(&lacking);
             Ok(Outcome::Short(lacking))
         }
         Decision::Act(batch) => act(setup, replica, &batch),
@@ -80,7 +81,8 @@ fn receive(
     ensures { IfOk result (λ outcome. HasTaken setup.now message.now replica.old outcome replica.new) }
 {
     let taken = replica.take(alloc, setup, message)?;
-    replica.commit_take(alloc, setup, message, &taken)?;
+    replica.ready(setup, &taken.batch)?;
+    replica.commit_take(setup, message, &taken);
     Ok(Outcome::Took {
         number: message.number,
         applied: taken.applied,

@@ -1,14 +1,40 @@
-use Rattle.std.proofs.Common.{ap, ◌∙◌, ◌++◌, ◌∷◌, [], arith, length, set, List}
+use Rattle.std.proofs.Common.{◌<◌, arith, length, List}
+use Rattle.std.specs.Global.{Vec}
+use Rattle.std.proofs.lemmas.List.{length-map}
 use Rattle.spec_model.specs.declared.log.LogItem.{LogItem}
-use Rattle.std.proofs.lemmas.List.{get_or_default}
 use Rattle.causal_store.specs.Stores.{logs_in}
-use Rattle.causal_store.proofs.Stored.{one_more}
+use Rattle.causal_store.proofs.Stored.{first_room, has_room, log_there, one_more, pushed_on, room_left}
 use Rattle.causal_store.proofs.store.Store.apply.Goals as goal
+
+pub index_mut-requires : goal.index_mut-requires
+index_mut-requires c = omega (arith, c.requires.fits.origin, length-map c.args.self.now.logs.items (λ (l : Vec LogItem). l.items))
+
+pub push_within-requires : goal.push_within-requires
+push_within-requires c =
+    let logs : List (Vec LogItem) = c.args.self.now.logs.items in
+    let i = c.args.item.now.origin in
+    let lt : i < length logs = omega (arith, c.requires.fits.origin, length-map logs (λ (l : Vec LogItem). l.items)) in
+    has_room logs i c.index_mut.result.now (log_there logs i c.index_mut.result.now lt c.index_mut.ensures.value) (first_room logs c.args.item.now c.requires.room.0 (c.requires.room.1 i))
+
+pub returns-clause-applied : goal.returns-clause-applied
+returns-clause-applied c =
+    let logs : List (Vec LogItem) = c.args.self.now.logs.items in
+    let item = c.args.item.now in
+    let lt : item.origin < length logs = omega (arith, c.requires.fits.origin, length-map logs (λ (l : Vec LogItem). l.items)) in
+    pushed_on logs item.origin c.index_mut.result.now c.push_within.new.log item (log_there logs item.origin c.index_mut.result.now lt c.index_mut.ensures.value) c.push_within.ensures.items
 
 pub returns-clause-own : goal.returns-clause-own
 returns-clause-own c =
-    let logs = logs_in c.args.self.now in
+    let logs : List (Vec LogItem) = c.args.self.now.logs.items in
     let item = c.args.item.now in
-    let there = c.index_mut-log.ensures.value ∙ get_or_default logs item.origin c.index_mut-log.result.now [] (omega (arith, c.requires.fits.origin)) in
-    let pushed = c.in_ok-push.ensures.ok ∙ ap (λ (log : List LogItem). log ++ item ∷ []) there in
-    one_more c.args.spec.now (length logs) c.args.self.now _ item c.requires.own c.requires.fits c.requires.next (ap (set logs item.origin) pushed) c.set.ensures
+    let lt : item.origin < length logs = omega (arith, c.requires.fits.origin, length-map logs (λ (l : Vec LogItem). l.items)) in
+    let pushed = pushed_on logs item.origin c.index_mut.result.now c.push_within.new.log item (log_there logs item.origin c.index_mut.result.now lt c.index_mut.ensures.value) c.push_within.ensures.items in
+    one_more c.args.spec.now (length (logs_in c.args.self.now)) c.args.self.now _ item c.requires.own c.requires.fits c.requires.next pushed c.set.ensures
+
+pub returns-clause-room : goal.returns-clause-room
+returns-clause-room c =
+    let logs : List (Vec LogItem) = c.args.self.now.logs.items in
+    let item = c.args.item.now in
+    let lt : item.origin < length logs = omega (arith, c.requires.fits.origin, length-map logs (λ (l : Vec LogItem). l.items)) in
+    let there = log_there logs item.origin c.index_mut.result.now lt c.index_mut.ensures.value in
+    λ items. room_left logs item c.index_mut.result.now c.push_within.new.log items there c.push_within.ensures.items c.push_within.ensures.room

@@ -1,4 +1,4 @@
-use Rattle.std.specs.Prelude.{◌≡◌, ℕ, max, length, drop, replicate, slice_index}
+use Rattle.std.specs.Prelude.{◌≡◌, ℕ, max, length, drop, map, replicate, slice_index}
 use Rattle.causal_store.specs.Folds.{all_items, known_by}
 use Rattle.causal_store.proofs.store.Store.pasts.Given as goal
 
@@ -9,6 +9,6 @@ invariant-loop-i l = l.past ≡ replicate l._i 0
 abbrev pub invariant-loop-log : goal.invariant-loop-log
 invariant-loop-log l = record {
   long : length l.past ≡ length l.self.logs.items;
-  joined : (i : ℕ) → max (slice_index l.past i) (known_by l.spec l.atom.pred l.atom.args l.truth (all_items (drop l.log-index l.self.logs.items)) i)
-      ≡ known_by l.spec l.atom.pred l.atom.args l.truth (all_items l.self.logs.items) i;
+  joined : (i : ℕ) → max (slice_index l.past i) (known_by l.spec l.atom.pred l.atom.args l.truth (all_items (map (λ log. log.items) (drop l.log-index l.self.logs.items))) i)
+      ≡ known_by l.spec l.atom.pred l.atom.args l.truth (all_items (map (λ log. log.items) l.self.logs.items)) i;
 }

@@ -7,7 +7,7 @@ use Rattle.spec_model.specs.declared.right.Right.TheVariants as right
 use Rattle.run_model.specs.Logs.{item_at, log_at}
 use Rattle.run_model.specs.Rights.{out_gives}
 use Rattle.replica_core.specs.Replicas.{known_to, own_log}
-use Rattle.replica_core.proofs.Logged.{logs_one, on_ok_all}
+use Rattle.replica_core.proofs.Logged.{logs_one}
 use Rattle.replica_core.proofs.Next.{log_inside, item_there, item_fits}
 use Rattle.replica_core.proofs.replica.Replica.accept.Goals as goal
 
@@ -23,18 +23,17 @@ gain_out-requires-clause-fits c =
 pub append-requires-clause-next : goal.append-requires-clause-next
 append-requires-clause-next c = (body.Accept c.args.from c.args.index, c.requires.next, tt)
 
-pub returns : goal.returns
-returns c =
+pub returns-clause-logged : goal.returns-clause-logged
+returns-clause-logged c =
     let old = c.args.self.now in
     let known = known_to old in
     let out : LogItem = c.index-log-index.result in
     let there : item_at known c.args.from c.args.index ≡ Some out = item_there (log_at known c.args.from) c.args.index out c.requires.known.1 (c.index-log-index.is ∙ ap (λ (l : List LogItem). get_or l c.args.index out) c.log.ensures) in
-    on_ok_all c.append.result c.append.ensures.kept c.append.ensures.logs c.append.ensures.store (λ kept logs store.
     logs_one c.args.setup.now (body.Accept c.args.from c.args.index) old c.append.new.self c.gain_out.new.counts (record {
       own = c.requires.own;
-      kept = kept;
-      logs = logs ∙ ap (λ (i : LogItem). slice_set known old.me (own_log old ++ i ∷ [])) c.requires.next;
-      store = store;
+      kept = c.append.ensures.kept;
+      logs = c.append.ensures.logs ∙ ap (λ (i : LogItem). slice_set known old.me (own_log old ++ i ∷ [])) c.requires.next;
+      store = c.append.ensures.store;
       known = c.requires.known;
       long = c.gain_out.ensures.raises.long;
       at = λ i cell is.
@@ -43,4 +42,4 @@ returns c =
           omega (arith, up, by);
       enough = λ cell among. omega arith;
       small = λ i. let up = c.gain_out.ensures.small (2 ^ 40 + length (own_log old) * 2 ^ 64) c.requires.own.holds.small i in omega (arith, up);
-    }))
+    })

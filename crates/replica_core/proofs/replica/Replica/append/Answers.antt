@@ -3,7 +3,6 @@ use Rattle.std.specs.Prelude.{slice_set}
 use Rattle.spec_model.specs.declared.log.LogItem.{LogItem}
 use Rattle.run_model.specs.Logs.{log_at}
 use Rattle.replica_core.specs.Replicas.{known_to}
-use Rattle.replica_core.proofs.Committed.{on_ok_then}
 use Rattle.replica_core.proofs.Next.{next_fits}
 use Rattle.replica_core.proofs.replica.Replica.append.Goals as goal
 
@@ -16,4 +15,4 @@ apply-requires-clause-next c = ap (λ (i : LogItem). i.index) c.requires.next.1 
 pub returns-clause-logs : goal.returns-clause-logs
 returns-clause-logs c =
     let known = known_to c.args.self.now in
-    on_ok_then c.apply.result c.apply.ensures.applied (λ is. is ∙ ap (λ (i : LogItem). slice_set known i.origin (log_at known i.origin ++ c.args.item.now ∷ [])) c.requires.next.1)
+    c.apply.ensures.applied ∙ ap (λ (i : LogItem). slice_set known i.origin (log_at known i.origin ++ c.args.item.now ∷ [])) c.requires.next.1

@@ -9,7 +9,7 @@ returns-clause-own c = first_replica c.args.setup.now c.args.me _ (record {
   store = c.in_ok-begin.ensures.own c.args.setup.now.spec;
   empty = c.in_ok-begin.ensures.empty;
   lows = c.in_ok-first_rights.ensures;
-  wants = c.new.ensures;
+  wants = c.in_ok-begin-2.ensures;
   told = c.in_ok-nothing_told.ensures;
 })
 
@@ -20,6 +20,6 @@ returns-clause-stands c = first_stands c.args.setup.now c.args.me _ (record {
   store = c.in_ok-begin.ensures.own c.args.setup.now.spec;
   empty = c.in_ok-begin.ensures.empty;
   lows = c.in_ok-first_rights.ensures;
-  wants = c.new.ensures;
+  wants = c.in_ok-begin-2.ensures;
   told = c.in_ok-nothing_told.ensures;
 })

@@ -4,7 +4,7 @@ use Rattle.spec_model.specs.declared.log.Body.TheVariants as body
 use Rattle.spec_model.specs.declared.log.LogItem.{LogItem}
 use Rattle.replica_core.specs.Replicas.{known_to, own_log}
 use Rattle.replica_core.proofs.Counts.{in_universe}
-use Rattle.replica_core.proofs.Logged.{logs_one, on_ok_all}
+use Rattle.replica_core.proofs.Logged.{logs_one}
 use Rattle.replica_core.proofs.replica.Replica.give.Goals as goal
 
 pub lose_piece-requires-clause-held : goal.lose_piece-requires-clause-held
@@ -16,18 +16,17 @@ lose_piece-requires-clause-held c = λ i cell is.
 pub append-requires-clause-next : goal.append-requires-clause-next
 append-requires-clause-next c = (body.Out c.args.to c.args.right.now c.args.piece.now, c.requires.next, c.requires.fits)
 
-pub returns : goal.returns
-returns c =
+pub returns-clause-logged : goal.returns-clause-logged
+returns-clause-logged c =
     let old = c.args.self.now in
-    on_ok_all c.append.result c.append.ensures.kept c.append.ensures.logs c.append.ensures.store (λ kept logs store.
     logs_one c.args.setup.now (body.Out c.args.to c.args.right.now c.args.piece.now) old c.append.new.self c.lose_piece.new.counts (record {
       own = c.requires.own;
-      kept = kept;
-      logs = logs ∙ ap (λ (i : LogItem). slice_set (known_to old) old.me (own_log old ++ i ∷ [])) c.requires.next;
-      store = store;
+      kept = c.append.ensures.kept;
+      logs = c.append.ensures.logs ∙ ap (λ (i : LogItem). slice_set (known_to old) old.me (own_log old ++ i ∷ [])) c.requires.next;
+      store = c.append.ensures.store;
       known = tt;
       long = c.lose_piece.ensures.lowers.long;
       at = λ i cell is. let down = c.lose_piece.ensures.lowers.at i cell is in omega (arith, down);
       enough = c.requires.held;
       small = λ i. let up = c.lose_piece.ensures.small (2 ^ 40 + length (own_log old) * 2 ^ 64) c.requires.own.holds.small i in omega (arith, up);
-    }))
+    })

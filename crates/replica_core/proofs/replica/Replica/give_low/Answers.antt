@@ -4,8 +4,8 @@ use Rattle.run_model.specs.Rights.{held_count}
 use Rattle.replica_core.specs.Drafts.{drafted_logs}
 use Rattle.replica_core.specs.Replicas.{own_log}
 use Rattle.replica_core.proofs.Changes.{gives_some}
-use Rattle.replica_core.proofs.Committed.{on_ok_then}
 use Rattle.replica_core.proofs.Drafted.{drafted_these}
+use Rattle.replica_core.proofs.Logged.{on_ok_then}
 use Rattle.replica_core.proofs.replica.Replica.give_low.Goals as goal
 
 pub returns : goal.returns

@@ -1,4 +1,6 @@
-use Rattle.std.specs.Prelude.{take, drop}
+use Rattle.std.specs.Prelude.{List, ◌++◌, take, drop}
+use Rattle.spec_model.specs.declared.log.LogItem.{LogItem}
+use Rattle.replica_core.specs.Decisions.{IsReadyFor}
 use Rattle.replica_core.specs.Replicas.{CanLearn, HasLearned}
 use Rattle.replica_core.proofs.replica.Replica.learn.Given as goal
 
@@ -6,5 +8,6 @@ use Rattle.replica_core.proofs.replica.Replica.learn.Given as goal
 abbrev pub invariant-loop-item : goal.invariant-loop-item
 invariant-loop-item l = record {
   learned : HasLearned l.spec (take l.item-index l.items) l.fn.self l.self;
+  ready : (more : List LogItem) → IsReadyFor l.fn.self (l.items ++ more) → IsReadyFor l.self (drop l.item-index l.items ++ more);
   can : CanLearn l.spec l.self (drop l.item-index l.items);
 }

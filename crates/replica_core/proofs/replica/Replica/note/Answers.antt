@@ -1,7 +1,6 @@
 use Rattle.std.proofs.Common.{sym}
-use Rattle.replica_core.proofs.Committed.{on_ok_then}
 use Rattle.replica_core.proofs.Needed.{answered_short}
 use Rattle.replica_core.proofs.replica.Replica.note.Goals as goal
 
 pub returns : goal.returns
-returns c = on_ok_then c.want.result c.want.ensures (λ becomes setup inst own decides. answered_short setup inst c.args.self.now c.want.new.self c.args.lacking.now own decides.1 (sym decides.0) becomes)
+returns c = λ setup inst own decides. answered_short setup inst c.args.self.now c.want.new.self c.args.lacking.now own decides.1 (sym decides.0) c.want.ensures

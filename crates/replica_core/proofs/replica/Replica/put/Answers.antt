@@ -1,5 +1,4 @@
 use Rattle.std.proofs.Common.{◌≡◌, [], sym, ap, subst, ◌∙◌}
-use Rattle.std.specs.Prelude.{OnOk}
 use Rattle.spec_model.specs.declared.log.Body.{Body}
 use Rattle.spec_model.specs.declared.right.Right.TheVariants as right
 use Rattle.run_model.specs.Fitting.{BodyFits}
@@ -17,8 +16,8 @@ act-requires-clause-fits c = subst (BodyFits c.args.setup.now.spec) c.in-Act.is 
 pub act-requires-clause-held : goal.act-requires-clause-held
 act-requires-clause-held c = loses_as c.args.setup.now (known_to c.args.self.now) c.args.self.now.me (standing_of 0 [] c.args.self.now) c.args.item.now _ c.in-Act.is c.requires.next
 
-pub returns-in-Act : goal.returns-in-Act
-returns-in-Act c = subst (λ (b : Body). OnOk c.act.result (HasLogged c.args.setup.now b c.args.self.now c.act.new.self)) (sym c.in-Act.is) c.act.ensures
+pub returns-in-Act-clause-logged : goal.returns-in-Act-clause-logged
+returns-in-Act-clause-logged c = subst (λ (b : Body). HasLogged c.args.setup.now b c.args.self.now c.act.new.self) (sym c.in-Act.is) c.act.ensures.logged
 
 pub accept-requires-clause-next : goal.accept-requires-clause-next
 accept-requires-clause-next c = c.requires.next.is ∙ ap (item_of c.args.self.now) c.in-Accept.is
@@ -26,8 +25,8 @@ accept-requires-clause-next c = c.requires.next.is ∙ ap (item_of c.args.self.n
 pub accept-requires-clause-known : goal.accept-requires-clause-known
 accept-requires-clause-known c = subst (IsKnown (known_to c.args.self.now) c.args.self.now.me) c.in-Accept.is c.requires.next.known
 
-pub returns-in-Accept : goal.returns-in-Accept
-returns-in-Accept c = subst (λ (b : Body). OnOk c.accept.result (HasLogged c.args.setup.now b c.args.self.now c.accept.new.self)) (sym c.in-Accept.is) c.accept.ensures
+pub returns-in-Accept-clause-logged : goal.returns-in-Accept-clause-logged
+returns-in-Accept-clause-logged c = subst (λ (b : Body). HasLogged c.args.setup.now b c.args.self.now c.accept.new.self) (sym c.in-Accept.is) c.accept.ensures.logged
 
 pub give-requires-clause-next : goal.give-requires-clause-next
 give-requires-clause-next c = c.requires.next.is ∙ ap (item_of c.args.self.now) c.in-Out.is
@@ -38,5 +37,5 @@ give-requires-clause-fits c = subst (BodyFits c.args.setup.now.spec) c.in-Out.is
 pub give-requires-clause-held : goal.give-requires-clause-held
 give-requires-clause-held c = loses_as c.args.setup.now (known_to c.args.self.now) c.args.self.now.me (standing_of 0 [] c.args.self.now) c.args.item.now _ c.in-Out.is c.requires.next
 
-pub returns-in-Out : goal.returns-in-Out
-returns-in-Out c = subst (λ (b : Body). OnOk c.give.result (HasLogged c.args.setup.now b c.args.self.now c.give.new.self)) (sym c.in-Out.is) c.give.ensures
+pub returns-in-Out-clause-logged : goal.returns-in-Out-clause-logged
+returns-in-Out-clause-logged c = subst (λ (b : Body). HasLogged c.args.setup.now b c.args.self.now c.give.new.self) (sym c.in-Out.is) c.give.ensures.logged
