@@ -21,7 +21,7 @@ use Rattle.run_laws.proofs.Settled.{same_first, same_rest, hears_one, world_step
 -- ---- what stays as another replica steps
 
 -- how a replica stands
-get_there : (w : World) (i j : ℕ) (x y : Standing) → j ≢ i → slice_get w j ≡ Some y → slice_get (slice_set w i x) j ≡ Some y
+pub get_there : (w : World) (i j : ℕ) (x y : Standing) → j ≢ i → slice_get w j ≡ Some y → slice_get (slice_set w i x) j ≡ Some y
 get_there [] i zero x y ne is = is
 get_there [] i (suc j) x y ne is = is
 get_there (z ∷ w) zero zero x y ne is = absurd (ne refl)
@@ -68,7 +68,7 @@ precedes_twice e f g (inl h) (inr k) = inl (omega (arith, h, k.0))
 precedes_twice e f g (inr h) (inl k) = inl (omega (arith, h.0, k))
 precedes_twice e f g (inr h) (inr k) = inr (h.0 ∙ k.0, omega (arith, h.1, k.1))
 
-not_both : (e f : StepEntry) → Precedes e f → Precedes f e → ⊥
+pub not_both : (e f : StepEntry) → Precedes e f → Precedes f e → ⊥
 not_both e f (inl h) (inl k) = omega (arith, h, k)
 not_both e f (inl h) (inr k) = omega (arith, h, k.0)
 not_both e f (inr h) (inl k) = omega (arith, h.0, k)
@@ -81,10 +81,10 @@ precedes_like e f g stamp place (inr h) = inr (h.0 ∙ stamp, omega (arith, h.1,
 -- ---- the first entries
 
 -- what is asked of a replica first, by its first entry
-asks_first : (me : ℕ) (e : StepEntry) (es : List StepEntry) → e.replica ≡ me → asks_in (entries_at me (e ∷ es)) ≡ e.ask ∷ asks_in (entries_at me es)
+pub asks_first : (me : ℕ) (e : StepEntry) (es : List StepEntry) → e.replica ≡ me → asks_in (entries_at me (e ∷ es)) ≡ e.ask ∷ asks_in (entries_at me es)
 asks_first me e es is = ap asks_in (entries_same me e es is)
 
-asks_other : (me : ℕ) (e : StepEntry) (es : List StepEntry) → e.replica ≢ me → asks_in (entries_at me (e ∷ es)) ≡ asks_in (entries_at me es)
+pub asks_other : (me : ℕ) (e : StepEntry) (es : List StepEntry) → e.replica ≢ me → asks_in (entries_at me (e ∷ es)) ≡ asks_in (entries_at me es)
 asks_other me e es ne = ap asks_in (entries_other me e es ne)
 
 -- the replica still stands as before entry e, and has in hand what e had

@@ -3,4 +3,4 @@
 
 mod laws;
 
-pub use laws::runs_are_one;
+pub use laws::{every_schedule_runs, runs_are_one};
