@@ -1,0 +1,177 @@
+-- What is asked can be answered.
+use Rattle.std.proofs.Common.{◌≡◌, ◌≢◌, ◌⊎◌, inl, inr, ℕ, zero, suc, ◌+◌, ◌<◌, ◌≤◌, Bool, true, false, cond, List, [], ◌∷◌, ◌++◌, length, refl, sym, ap, subst, ◌∙◌, arith}
+use Rattle.std.specs.Prelude.{slice_index, slice_index_or, slice_set, Some, None, Option, ◌==◌, ◌&&◌}
+use Rattle.std.specs.List.{AllByRecursion}
+use Rattle.std.proofs.lemmas.List.{append-nil, length-append}
+use Rattle.std.proofs.lemmas.Bool.{cases_lt}
+use Rattle.spec_model.specs.declared.plan.Setup.{Setup}
+use Rattle.spec_model.specs.declared.instance.Inst.{Inst}
+use Rattle.spec_model.specs.declared.right.Want.{Want}
+use Rattle.spec_model.specs.declared.right.Lacking.{Lacking}
+use Rattle.spec_model.specs.declared.log.Body.{Body}
+use Rattle.spec_model.specs.declared.log.Body.TheVariants as body
+use Rattle.spec_model.specs.declared.log.LogItem.{LogItem}
+use Rattle.spec_model.specs.Needs.{needs}
+use Rattle.run_model.specs.declared.message.Message.{Message}
+use Rattle.run_model.specs.declared.step.Ask.{Ask}
+use Rattle.run_model.specs.declared.step.Ask.TheVariants as asks
+use Rattle.run_model.specs.declared.step.Outcome.{Outcome}
+use Rattle.run_model.specs.declared.step.Outcome.TheVariants as outcomes
+use Rattle.run_model.specs.Logs.{Logs, LiesWithin, with_item}
+use Rattle.run_model.specs.Rights.{first_lacking}
+use Rattle.run_model.specs.Wants.{need_of, noted, piece_for, want_of}
+use Rattle.run_model.specs.Worlds.{Standing, Sending, logged, logged_all, holding, joined, sent_to}
+use Rattle.run_model.specs.Steps.{Requested, Takes, TakesSent, Sends, Answers, AreReady, IsStuck, AreAdmitted, unseen, cut_after, accepts_of, given, answered, dropped, received, message_of}
+use Rattle.scenario_text.specs.Numbered.{sends_to}
+
+-- ---- what is applied
+
+within_cons : (p c : ℕ) (past cut : List ℕ) → p ≤ c → LiesWithin past cut → LiesWithin (p ∷ past) (c ∷ cut)
+within_cons p c past cut le rest zero = le
+within_cons p c past cut le rest (suc i) = rest i
+
+within_none : (p : ℕ) (past : List ℕ) → p ≤ 0 → LiesWithin past [] → LiesWithin (p ∷ past) []
+within_none p past le rest zero = le
+within_none p past le rest (suc i) = rest i
+
+-- a past lies in a cut or not
+within_or_not : (past cut : List ℕ) → LiesWithin past cut ⊎ ¬ (LiesWithin past cut)
+within_or_not [] cut = inl (λ i. omega arith)
+within_or_not (p ∷ past) [] =
+    elim (cases_lt 0 p) [
+      | inl lt ↦ inr (λ all. let first : p ≤ 0 = all 0 in omega (arith, first, lt))
+      | inr le ↦ elim (within_or_not past []) [
+        | inl rest ↦ inl (within_none p past le rest)
+        | inr fails ↦ inr (λ all. fails (λ i. all (suc i)))
+      ]
+    ]
+within_or_not (p ∷ past) (c ∷ cut) =
+    elim (cases_lt c p) [
+      | inl lt ↦ inr (λ all. let first : p ≤ c = all 0 in omega (arith, first, lt))
+      | inr le ↦ elim (within_or_not past cut) [
+        | inl rest ↦ inl (within_cons p c past cut le rest)
+        | inr fails ↦ inr (λ all. fails (λ i. all (suc i)))
+      ]
+    ]
+
+-- the longest prefix of items that are ready
+longest_some : (cut : List ℕ) (items : List LogItem) → (applied : List LogItem) × (rest : List LogItem) × (items ≡ applied ++ rest) × AreReady cut applied × IsStuck (cut_after cut applied) rest
+longest_some cut [] = ([], [], refl, tt, tt)
+longest_some cut (item ∷ items) =
+    elim (within_or_not item.deps cut) [
+      | inl ready ↦
+          let r = longest_some (with_item cut item) items in
+          (item ∷ r.0, r.1, ap (λ (l : List LogItem). item ∷ l) r.2, (ready, r.3), r.4)
+      | inr stuck ↦ ([], item ∷ items, refl, tt, stuck)
+    ]
+
+admitted_some : (cut : List ℕ) (items : List LogItem) → (applied : List LogItem) × AreAdmitted cut items applied
+admitted_some cut items =
+    let r = longest_some cut (unseen cut items) in
+    (r.0, record { rest = r.1; prefix = r.2; ready = r.3; longest = r.4 })
+
+-- ---- answers
+
+-- a log grows
+logged_more : (me : ℕ) (bodies : List Body) (p : Standing) → length (logged_all me bodies p).log ≡ length p.log + length bodies
+logged_more me [] p = omega arith
+logged_more me (b ∷ bodies) p =
+    let rest = logged_more me bodies (logged me b p) in
+    let one = length-append p.log (record { origin = me; index = length p.log; deps = p.cut; body = b } ∷ []) in
+    omega (arith, rest, one)
+
+answered_more : (setup : Setup) (logs : Logs) (me to : ℕ) (wants : List Want) (p : Standing) → (gave : ℕ) × (length (answered setup logs me to wants p).log ≡ length p.log + gave)
+answered_more setup logs me to [] p = (0, omega arith)
+answered_more setup logs me to (want ∷ wants) p =
+    let bodies : List Body = given (piece_for (holding setup logs me p (need_of want)) want.ask) to want.right in
+    let rest = answered_more setup logs me to wants (logged_all me bodies p) in
+    (length bodies + rest.0, omega (arith, rest.1, logged_more me bodies p))
+
+-- to log items sends nothing
+logged_sendings : (me : ℕ) (bodies : List Body) (p : Standing) → (logged_all me bodies p).sendings ≡ p.sendings
+logged_sendings me [] p = refl
+logged_sendings me (b ∷ bodies) p = logged_sendings me bodies (logged me b p)
+
+answered_sendings : (setup : Setup) (logs : Logs) (me to : ℕ) (wants : List Want) (p : Standing) → (answered setup logs me to wants p).sendings ≡ p.sendings
+answered_sendings setup logs me to [] p = refl
+answered_sendings setup logs me to (want ∷ wants) p =
+    let bodies : List Body = given (piece_for (holding setup logs me p (need_of want)) want.ask) to want.right in
+    answered_sendings setup logs me to wants (logged_all me bodies p) ∙ logged_sendings me bodies p
+
+-- a message can be taken, which sends nothing
+takes_some : (setup : Setup) (logs : Logs) (me : ℕ) (message : Message) (old : Standing)
+    → (applied : List LogItem) × (outcome : Outcome) × (new : Standing) × Takes setup logs me message applied old outcome new × (new.sendings ≡ old.sendings)
+takes_some setup logs me message old =
+    let a = admitted_some old.cut message.items in
+    let first : Standing = record old { told = slice_set old.told message.from (joined (slice_index_or old.told message.from []) message.cut); cut = cut_after old.cut a.0 } in
+    let before : Standing = dropped setup logs me (received me message a.0 old) in
+    let gave = answered_more setup logs me message.from message.wants before in (
+      a.0,
+      outcomes.Took message.number (length a.0) (length (accepts_of me a.0)) gave.0,
+      answered setup logs me message.from message.wants before,
+      record { gave = gave.0; before_answers = before; admitted = a.1; before_is = refl; becomes = refl; gave_is = gave.1; outcome_is = refl },
+      answered_sendings setup logs me message.from message.wants before ∙ logged_sendings me (accepts_of me a.0) first,
+    )
+
+-- an instance can be requested, which sends nothing
+requested_some : (me : ℕ) (inst : Inst) (lacking : Option Lacking) (old : Standing) → (outcome : Outcome) × (new : Standing) × Requested me inst lacking old outcome new × (new.sendings ≡ old.sendings)
+requested_some me inst None old = (outcomes.Done (length old.log), logged me (body.Act inst) old, (refl, refl), refl)
+requested_some me inst (Some lacking) old = (outcomes.Short lacking, record old { wants = noted old.wants (want_of lacking.need) }, (refl, refl), refl)
+
+-- ---- what is sent
+
+-- the step that sent has its message
+abbrev pub HasMessage : Sending → Type 0
+HasMessage s = (message : Message) × (s.message ≡ Some message)
+
+-- an answer, and the steps that sent, as they are then counted
+pub record IsAnswered (setup : Setup) (logs : Logs) (me : ℕ) (heard : Option Sending) (stamp : ℕ) (ask : Ask) (old : Standing) : Type 0 where
+  pub applied : List LogItem
+  pub outcome : Outcome
+  pub after : Standing
+  pub answers : Answers setup logs me heard applied stamp ask old outcome after
+  pub more : List Sending
+  pub is : after.sendings ≡ old.sendings ++ more
+  pub counted : (to : ℕ) → length (sent_to to more) ≡ cond (sends_to to ask) 1 0
+  pub sent : AllByRecursion HasMessage more
+
+-- a request is answered
+pub does_some : (setup : Setup) (logs : Logs) (me stamp : ℕ) (inst : Inst) (old : Standing) → IsAnswered setup logs me None stamp (asks.Do inst) old
+does_some setup logs me stamp inst old =
+    let r = requested_some me inst (first_lacking (holding setup logs me old) (needs setup inst)) old in
+    record { applied = []; outcome = r.0; after = r.1; answers = (refl, r.2); more = []; is = r.3 ∙ sym (append-nil old.sendings); counted = λ to. refl; sent = tt }
+
+one_if : (b : Bool) (s : Sending) → length (cond b (s ∷ []) []) ≡ cond b 1 0
+one_if true s = refl
+one_if false s = refl
+
+-- a send
+pub sends_some : (setup : Setup) (logs : Logs) (me stamp to number : ℕ) (old : Standing) → to ≢ me → number ≡ length (sent_to to old.sendings) → IsAnswered setup logs me None stamp (asks.Send to (Some number)) old
+sends_some setup logs me stamp to number old ne is =
+    let message : Message = message_of setup logs me to number stamp old in
+    let s : Sending = record { to = to; stamp = stamp; message = Some message } in
+    record {
+      applied = [];
+      outcome = outcomes.Sent number (length message.items) (length message.wants);
+      after = record old { sendings = old.sendings ++ s ∷ [] };
+      answers = (refl, record { other = ne; counted = is; outcome_is = refl; becomes = refl });
+      more = s ∷ [];
+      is = refl;
+      counted = λ peer. one_if (to == peer) s;
+      sent = ((message, refl), tt);
+    }
+
+-- a take of a step that sent
+pub takes_sent_some : (setup : Setup) (logs : Logs) (me stamp from number : ℕ) (s : Sending) (old : Standing) → HasMessage s → IsAnswered setup logs me (Some s) stamp (asks.Take from (Some number)) old
+takes_sent_some setup logs me stamp from number s old has =
+    let r = takes_some setup logs me has.0 old in
+    record {
+      applied = r.0;
+      outcome = r.1;
+      after = r.2;
+      answers = subst (λ (m : Option Message). TakesSent setup logs me m r.0 old r.1 r.2) (sym has.1) r.3;
+      more = [];
+      is = r.4 ∙ sym (append-nil old.sendings);
+      counted = λ to. refl;
+      sent = tt;
+    }
