@@ -1,9 +1,8 @@
 -- What is asked can be answered.
-use Rattle.std.proofs.Common.{◌≡◌, ◌≢◌, ◌⊎◌, inl, inr, ℕ, zero, suc, ◌+◌, ◌<◌, ◌≤◌, Bool, true, false, cond, List, [], ◌∷◌, ◌++◌, length, refl, sym, ap, subst, ◌∙◌, arith}
-use Rattle.std.specs.Prelude.{slice_index, slice_index_or, slice_set, Some, None, Option, ◌==◌, ◌&&◌}
+use Rattle.std.proofs.Common.{◌≡◌, ◌≢◌, ℕ, ◌+◌, Bool, true, false, cond, List, [], ◌∷◌, ◌++◌, length, refl, sym, subst, ◌∙◌, arith}
+use Rattle.std.specs.Prelude.{slice_index_or, slice_set, Some, None, Option, ◌==◌}
 use Rattle.std.specs.List.{AllByRecursion}
 use Rattle.std.proofs.lemmas.List.{append-nil, length-append}
-use Rattle.std.proofs.lemmas.Bool.{cases_lt}
 use Rattle.spec_model.specs.declared.plan.Setup.{Setup}
 use Rattle.spec_model.specs.declared.instance.Inst.{Inst}
 use Rattle.spec_model.specs.declared.right.Want.{Want}
@@ -17,58 +16,13 @@ use Rattle.run_model.specs.declared.step.Ask.{Ask}
 use Rattle.run_model.specs.declared.step.Ask.TheVariants as asks
 use Rattle.run_model.specs.declared.step.Outcome.{Outcome}
 use Rattle.run_model.specs.declared.step.Outcome.TheVariants as outcomes
-use Rattle.run_model.specs.Logs.{Logs, LiesWithin, with_item}
+use Rattle.run_model.specs.Logs.{Logs}
 use Rattle.run_model.specs.Rights.{first_lacking}
 use Rattle.run_model.specs.Wants.{need_of, noted, piece_for, want_of}
 use Rattle.run_model.specs.Worlds.{Standing, Sending, logged, logged_all, holding, joined, sent_to}
-use Rattle.run_model.specs.Steps.{Requested, Takes, TakesSent, Sends, Answers, AreReady, IsStuck, AreAdmitted, unseen, cut_after, accepts_of, given, answered, dropped, received, message_of}
+use Rattle.run_model.specs.Steps.{Requested, Takes, TakesSent, Answers, cut_after, accepts_of, given, answered, dropped, received, message_of}
 use Rattle.scenario_text.specs.Numbered.{sends_to}
-
--- ---- what is applied
-
-within_cons : (p c : ℕ) (past cut : List ℕ) → p ≤ c → LiesWithin past cut → LiesWithin (p ∷ past) (c ∷ cut)
-within_cons p c past cut le rest zero = le
-within_cons p c past cut le rest (suc i) = rest i
-
-within_none : (p : ℕ) (past : List ℕ) → p ≤ 0 → LiesWithin past [] → LiesWithin (p ∷ past) []
-within_none p past le rest zero = le
-within_none p past le rest (suc i) = rest i
-
--- a past lies in a cut or not
-within_or_not : (past cut : List ℕ) → LiesWithin past cut ⊎ ¬ (LiesWithin past cut)
-within_or_not [] cut = inl (λ i. omega arith)
-within_or_not (p ∷ past) [] =
-    elim (cases_lt 0 p) [
-      | inl lt ↦ inr (λ all. let first : p ≤ 0 = all 0 in omega (arith, first, lt))
-      | inr le ↦ elim (within_or_not past []) [
-        | inl rest ↦ inl (within_none p past le rest)
-        | inr fails ↦ inr (λ all. fails (λ i. all (suc i)))
-      ]
-    ]
-within_or_not (p ∷ past) (c ∷ cut) =
-    elim (cases_lt c p) [
-      | inl lt ↦ inr (λ all. let first : p ≤ c = all 0 in omega (arith, first, lt))
-      | inr le ↦ elim (within_or_not past cut) [
-        | inl rest ↦ inl (within_cons p c past cut le rest)
-        | inr fails ↦ inr (λ all. fails (λ i. all (suc i)))
-      ]
-    ]
-
--- the longest prefix of items that are ready
-longest_some : (cut : List ℕ) (items : List LogItem) → (applied : List LogItem) × (rest : List LogItem) × (items ≡ applied ++ rest) × AreReady cut applied × IsStuck (cut_after cut applied) rest
-longest_some cut [] = ([], [], refl, tt, tt)
-longest_some cut (item ∷ items) =
-    elim (within_or_not item.deps cut) [
-      | inl ready ↦
-          let r = longest_some (with_item cut item) items in
-          (item ∷ r.0, r.1, ap (λ (l : List LogItem). item ∷ l) r.2, (ready, r.3), r.4)
-      | inr stuck ↦ ([], item ∷ items, refl, tt, stuck)
-    ]
-
-admitted_some : (cut : List ℕ) (items : List LogItem) → (applied : List LogItem) × AreAdmitted cut items applied
-admitted_some cut items =
-    let r = longest_some cut (unseen cut items) in
-    (r.0, record { rest = r.1; prefix = r.2; ready = r.3; longest = r.4 })
+use Rattle.run_laws.proofs.Admitted.{admitted_some}
 
 -- ---- answers
 
@@ -80,6 +34,7 @@ logged_more me (b ∷ bodies) p =
     let one = length-append p.log (record { origin = me; index = length p.log; deps = p.cut; body = b } ∷ []) in
     omega (arith, rest, one)
 
+-- also as wants are answered
 answered_more : (setup : Setup) (logs : Logs) (me to : ℕ) (wants : List Want) (p : Standing) → (gave : ℕ) × (length (answered setup logs me to wants p).log ≡ length p.log + gave)
 answered_more setup logs me to [] p = (0, omega arith)
 answered_more setup logs me to (want ∷ wants) p =
@@ -92,6 +47,7 @@ logged_sendings : (me : ℕ) (bodies : List Body) (p : Standing) → (logged_all
 logged_sendings me [] p = refl
 logged_sendings me (b ∷ bodies) p = logged_sendings me bodies (logged me b p)
 
+-- nor do answers to wants
 answered_sendings : (setup : Setup) (logs : Logs) (me to : ℕ) (wants : List Want) (p : Standing) → (answered setup logs me to wants p).sendings ≡ p.sendings
 answered_sendings setup logs me to [] p = refl
 answered_sendings setup logs me to (want ∷ wants) p =
@@ -141,6 +97,7 @@ does_some setup logs me stamp inst old =
     let r = requested_some me inst (first_lacking (holding setup logs me old) (needs setup inst)) old in
     record { applied = []; outcome = r.0; after = r.1; answers = (refl, r.2); more = []; is = r.3 ∙ sym (append-nil old.sendings); counted = λ to. refl; sent = tt }
 
+-- a list of one, or none
 one_if : (b : Bool) (s : Sending) → length (cond b (s ∷ []) []) ≡ cond b 1 0
 one_if true s = refl
 one_if false s = refl

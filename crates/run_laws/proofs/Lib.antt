@@ -1,5 +1,9 @@
 pub mod Settled
+pub mod There
+pub mod Ordered
 pub mod OneRun
 pub mod Sorted
+pub mod Admitted
 pub mod Answered
+pub mod Sent
 pub mod EverySchedule

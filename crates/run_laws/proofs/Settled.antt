@@ -49,10 +49,12 @@ admitted_one cut items a b h k = longest_one cut a b h.rest k.rest (sym h.prefix
 
 -- ---- what is answered
 
+-- a request is settled
 requested_one : (me : ℕ) (inst : Inst) (lacking : Option Lacking) (old : Standing) (o p : Outcome) (x y : Standing) → Requested me inst lacking old o x → Requested me inst lacking old p y → (o ≡ p) × (x ≡ y)
 requested_one me inst None old o p x y h k = (h.0 ∙ sym k.0, h.1 ∙ sym k.1)
 requested_one me inst (Some lacking) old o p x y h k = (h.0 ∙ sym k.0, h.1 ∙ sym k.1)
 
+-- a take is settled
 takes_one : (setup : Setup) (logs : Logs) (me : ℕ) (message : Message) (a b : List LogItem) (old : Standing) (o p : Outcome) (x y : Standing)
     → Takes setup logs me message a old o x → Takes setup logs me message b old p y → (o ≡ p) × (x ≡ y)
 takes_one setup logs me message a b old o p x y first k =
@@ -62,6 +64,7 @@ takes_one setup logs me message a b old o p x y first k =
     let gave : h.gave ≡ k.gave = omega (arith, h.gave_is, k.gave_is, ap (λ (q : Standing). length q.log) before, ap (λ (q : Standing). length q.log) after) in
     (h.outcome_is ∙ ap (λ n. outcomes.Took message.number (length b) (length (accepts_of me b)) n) gave ∙ sym k.outcome_is, after)
 
+-- also of a step that sent
 takes_sent_one : (setup : Setup) (logs : Logs) (me : ℕ) (sent : Option Message) (a b : List LogItem) (old : Standing) (o p : Outcome) (x y : Standing)
     → TakesSent setup logs me sent a old o x → TakesSent setup logs me sent b old p y → (o ≡ p) × (x ≡ y)
 takes_sent_one setup logs me None a b old o p x y h k = absurd h
@@ -94,6 +97,7 @@ hears_one links me (asks.Take from None) x y h k = h ∙ sym k
 hears_one links me asks.Crash x y h k = h ∙ sym k
 hears_one links me asks.Recover x y h k = h ∙ sym k
 
+-- entries that are the same in each field
 same_entries : (e f : StepEntry) → e.stamp ≡ f.stamp → e.replica ≡ f.replica → e.ask ≡ f.ask → e.outcome ≡ f.outcome → e ≡ f
 same_entries e f stamp replica ask outcome =
     ap (λ (n : ℕ). let g : StepEntry = record { stamp = n; replica = e.replica; ask = e.ask; outcome = e.outcome } in g) stamp
