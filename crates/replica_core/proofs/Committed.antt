@@ -1,6 +1,6 @@
 -- What was decided is done once its batch is committed.
-use Rattle.std.proofs.Common.{◌≡◌, ◌≢◌, inl, inr, ℕ, zero, suc, ◌+◌, ◌<◌, ◌≤◌, ◌^◌, List, [], ◌∷◌, ◌++◌, length, map, take, drop, refl, sym, ap, subst, ◌∙◌, arith, length-append, length-take}
-use Rattle.std.specs.Prelude.{Some, None, slice_get, slice_index, Result, Ok, Err, OnOk, Contains}
+use Rattle.std.proofs.Common.{◌≡◌, inl, inr, ℕ, zero, suc, ◌+◌, ◌<◌, ◌≤◌, ◌^◌, List, [], ◌∷◌, ◌++◌, length, map, take, drop, refl, sym, ap, subst, ◌∙◌, arith, length-append, length-take}
+use Rattle.std.specs.Prelude.{Some, None, slice_index}
 use Rattle.std.specs.List.{AllByRecursion}
 use Rattle.std.proofs.lemmas.List.{append_assoc, append_cancel_left, take-append-drop}
 use Rattle.std.proofs.lemmas.Option.{slice_get_within}
@@ -17,7 +17,7 @@ use Rattle.run_model.specs.declared.message.Message.{Message}
 use Rattle.run_model.specs.declared.step.Outcome.{Outcome}
 use Rattle.run_model.specs.declared.step.Outcome.TheVariants as outcomes
 use Rattle.run_model.specs.Logs.{Logs, item_at, log_at}
-use Rattle.run_model.specs.Worlds.{Sending, Standing, logged, logged_all}
+use Rattle.run_model.specs.Worlds.{Sending, Standing, logged}
 use Rattle.run_model.specs.Steps.{AreAdmitted, Requests, Takes, accepts_of, answered, cut_after, dropped, received}
 use Rattle.run_model.specs.Fitting.{AreInRow, ItemFits, MessageFits}
 use Rattle.run_model.proofs.Escrow.{spends_held}
@@ -27,13 +27,13 @@ use Rattle.run_model.proofs.Lists.{each_append, each_weaker}
 use Rattle.causal_store.specs.Stores.{cut_in, logs_in}
 use Rattle.causal_store.specs.declared.store.Store.{Store}
 use Rattle.replica_core.specs.Tables.{AreHeld}
-use Rattle.replica_core.specs.Replicas.{AreCovered, HasAnswered, HasLearned, HasLoggedAll, HasTaken, IsKnown, IsReplica, KnowsOwn, holds_of, item_of, known_to, own_log, standing_of, with_items}
-use Rattle.replica_core.specs.Decisions.{AreNext, Decides, IsDecided, IsReadyFor, IsTaken, Splits, StaysSame}
+use Rattle.replica_core.specs.Replicas.{AreCovered, HasAnswered, HasLearned, HasLoggedAll, HasTaken, IsKnown, IsReplica, KnowsOwn, holds_of, known_to, own_log, standing_of, with_items}
+use Rattle.replica_core.specs.Decisions.{AreNext, Decides, IsDecided, IsTaken, Splits, StaysSame}
 use Rattle.replica_core.specs.declared.decision.Decision.{Decision}
 use Rattle.replica_core.specs.declared.decision.Decision.TheVariants as decision
 use Rattle.replica_core.specs.declared.decision.Taken.{Taken}
 use Rattle.replica_core.specs.declared.replica.Replica.{Replica}
-use Rattle.replica_core.proofs.Finished.{Drops, has_taken, left_answers, left_mine, left_own, left_stands, outs_of}
+use Rattle.replica_core.proofs.Finished.{Drops, has_taken, left_answers, left_stands, outs_of}
 use Rattle.replica_core.proofs.Needed.{answered_done}
 use Rattle.replica_core.proofs.Next.{accepts_free, answered_gives, bodies_back, free_next, gives_few, gives_for, gives_next, items_for, items_long, logged_items}
 use Rattle.replica_core.proofs.Received.{Admits, HasReceived, Learns, accepts_few, cut_counts, items_placed, has_received, learned_stands, part_of, told_of}

@@ -1,8 +1,7 @@
-use Rattle.std.proofs.Common.{◌≡◌, ◌<◌, ◌+◌, [], List, length, replicate, ap, ◌∙◌, subst, sym, arith}
+use Rattle.std.proofs.Common.{[], List, replicate, ap, ◌∙◌, subst, arith}
 use Rattle.run_model.specs.declared.batch.Batch.{Batch}
-use Rattle.run_model.specs.Worlds.{Standing}
-use Rattle.replica_core.specs.Recovered.{AreDecided, with_all}
-use Rattle.replica_core.specs.Replicas.{IsReplica, own_log}
+use Rattle.replica_core.specs.Recovered.{with_all}
+use Rattle.replica_core.specs.Replicas.{IsReplica}
 use Rattle.replica_core.proofs.Changes.{own_again}
 use Rattle.replica_core.proofs.Replayed.{all_more, decided_next}
 use Rattle.replica_core.proofs.replica.Replica.recover.Goals as goal
