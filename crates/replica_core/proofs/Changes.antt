@@ -1,6 +1,6 @@
 -- What a replica applies, accepts and gives, one item after the other.
 use Rattle.std.proofs.Common.{◌≡◌, ◌≢◌, ℕ, zero, suc, ◌+◌, ◌/◌, ◌<◌, ◌≤◌, min, max, Bool, true, false, cond, List, [], ◌∷◌, ◌++◌, length, get_or, set, take, drop, refl, sym, ap, subst, ◌∙◌, arith, length-set, eq-eqb, ne_eqb}
-use Rattle.std.specs.Prelude.{slice_get, slice_index, slice_set, Some, None, Option, is_some, ◌==◌}
+use Rattle.std.specs.Prelude.{slice_index, slice_set, Some, None, Option, is_some, ◌==◌}
 use Rattle.std.specs.List.{AllByRecursion, flat_map}
 use Rattle.std.proofs.lemmas.List.{get_or-set_same, get_or-set_other, length_push, append_assoc, append-nil}
 use Rattle.std.proofs.lemmas.List.Concat.{flat_map-cons}
@@ -22,7 +22,7 @@ use Rattle.spec_model.specs.declared.right.Piece.TheVariants as piece
 use Rattle.spec_model.specs.declared.log.Body.{Body}
 use Rattle.spec_model.specs.declared.log.Body.TheVariants as body
 use Rattle.spec_model.specs.declared.log.LogItem.{LogItem}
-use Rattle.run_model.specs.Logs.{Logs, item_at, log_at}
+use Rattle.run_model.specs.Logs.{Logs, log_at}
 use Rattle.run_model.specs.Rights.{first_lacking, is_met}
 use Rattle.spec_model.specs.declared.right.Lacking.{Lacking}
 use Rattle.run_model.specs.Worlds.{Standing, Sending, holding, joined, logged, logged_all}

@@ -1,6 +1,6 @@
 -- What was decided is done once its batch is committed.
-use Rattle.std.proofs.Common.{◌≡◌, ◌≢◌, inl, inr, ℕ, zero, suc, ◌+◌, ◌<◌, ◌≤◌, ◌^◌, List, [], ◌∷◌, ◌++◌, length, map, take, drop, refl, sym, ap, subst, ◌∙◌, arith, length-append, length-take}
-use Rattle.std.specs.Prelude.{Some, None, slice_get, slice_index, Result, Ok, Err, OnOk, Contains}
+use Rattle.std.proofs.Common.{◌≡◌, inl, inr, ℕ, zero, suc, ◌+◌, ◌<◌, ◌≤◌, ◌^◌, List, [], ◌∷◌, ◌++◌, length, map, take, drop, refl, sym, ap, subst, ◌∙◌, arith, length-append, length-take}
+use Rattle.std.specs.Prelude.{Some, None, slice_index}
 use Rattle.std.specs.List.{AllByRecursion}
 use Rattle.std.proofs.lemmas.List.{append_assoc, append_cancel_left, take-append-drop}
 use Rattle.std.proofs.lemmas.Option.{slice_get_within}
@@ -17,7 +17,7 @@ use Rattle.run_model.specs.declared.message.Message.{Message}
 use Rattle.run_model.specs.declared.step.Outcome.{Outcome}
 use Rattle.run_model.specs.declared.step.Outcome.TheVariants as outcomes
 use Rattle.run_model.specs.Logs.{Logs, item_at, log_at}
-use Rattle.run_model.specs.Worlds.{Sending, Standing, logged, logged_all}
+use Rattle.run_model.specs.Worlds.{Sending, Standing, logged}
 use Rattle.run_model.specs.Steps.{AreAdmitted, Requests, Takes, accepts_of, answered, cut_after, dropped, received}
 use Rattle.run_model.specs.Fitting.{AreInRow, ItemFits, MessageFits}
 use Rattle.run_model.proofs.Escrow.{spends_held}
@@ -27,24 +27,24 @@ use Rattle.run_model.proofs.Lists.{each_append, each_weaker}
 use Rattle.causal_store.specs.Stores.{cut_in, logs_in}
 use Rattle.causal_store.specs.declared.store.Store.{Store}
 use Rattle.replica_core.specs.Tables.{AreHeld}
-use Rattle.replica_core.specs.Replicas.{AreCovered, HasAnswered, HasLearned, HasLoggedAll, HasTaken, IsKnown, IsReplica, KnowsOwn, holds_of, item_of, known_to, own_log, standing_of, with_items}
-use Rattle.replica_core.specs.Decisions.{AreNext, Decides, IsDecided, IsReadyFor, IsTaken, Splits, StaysSame}
+use Rattle.replica_core.specs.Replicas.{AreCovered, HasAnswered, HasLearned, HasLoggedAll, HasTaken, IsKnown, IsReplica, KnowsOwn, holds_of, known_to, own_log, standing_of, with_items}
+use Rattle.replica_core.specs.Decisions.{AreNext, Decides, IsDecided, IsTaken, Splits, StaysSame}
 use Rattle.replica_core.specs.declared.decision.Decision.{Decision}
 use Rattle.replica_core.specs.declared.decision.Decision.TheVariants as decision
 use Rattle.replica_core.specs.declared.decision.Taken.{Taken}
 use Rattle.replica_core.specs.declared.replica.Replica.{Replica}
-use Rattle.replica_core.proofs.Finished.{Drops, has_taken, left_answers, left_mine, left_own, left_stands, outs_of}
+use Rattle.replica_core.proofs.Finished.{Drops, has_taken, left_answers, left_stands, outs_of}
 use Rattle.replica_core.proofs.Needed.{answered_done}
 use Rattle.replica_core.proofs.Next.{accepts_free, answered_gives, bodies_back, free_next, gives_few, gives_for, gives_next, items_for, items_long, logged_items}
 use Rattle.replica_core.proofs.Received.{Admits, HasReceived, Learns, accepts_few, cut_counts, items_placed, has_received, learned_stands, part_of, told_of}
 
-front_of : {X : Type 0} (xs ys : List X) (n : ℕ) → n ≡ length xs → take n (xs ++ ys) ≡ xs
+pub front_of : {X : Type 0} (xs ys : List X) (n : ℕ) → n ≡ length xs → take n (xs ++ ys) ≡ xs
 front_of [] ys zero is = refl
 front_of [] ys (suc n) is = absurd (omega (arith, is))
 front_of (x ∷ xs) ys zero is = absurd (omega (arith, is))
 front_of {X} (x ∷ xs) ys (suc n) is = ap (λ (l : List X). x ∷ l) (front_of xs ys n (omega (arith, is)))
 
-back_of : {X : Type 0} (xs ys : List X) (n : ℕ) → n ≡ length xs → drop n (xs ++ ys) ≡ ys
+pub back_of : {X : Type 0} (xs ys : List X) (n : ℕ) → n ≡ length xs → drop n (xs ++ ys) ≡ ys
 back_of [] ys zero is = refl
 back_of [] ys (suc n) is = absurd (omega (arith, is))
 back_of (x ∷ xs) ys zero is = absurd (omega (arith, is))
@@ -248,6 +248,9 @@ same_store setup old s own logs cut =
         told = own.told;
         told_each = own.told_each;
       };
+      knows = logs;
+      wants = refl;
+      told = refl;
       room = λ n h. subst (λ (l : Logs). length (log_at l me) + n < 2 ^ 32) back h;
       decides = λ inst d h. same_decision inst d h;
       taken = λ message taken h. record {
@@ -316,3 +319,22 @@ decided_origins setup r batch own (inr take_one) =
     all_own : (bodies : List Body) (p : Standing) → AllByRecursion (IsOfOne setup.replicas) (items_for r.me bodies p)
     all_own [] p = tt
     all_own (b ∷ bodies) p = (own.within, all_own bodies (logged r.me b p))
+
+-- a batch of a take: the items that were admitted, and then those of its own
+pub decided_parts : (setup : Setup) (message : Message) (r : Replica) (taken : Taken) → IsReplica setup r.me r → MessageFits setup.spec setup.replicas r.me message → IsTaken setup message r taken → let front : List LogItem = take taken.applied taken.batch.items in let logs : Logs = with_items message.from front (known_to r) in let before : Standing = before_of setup message r front in
+    AreAdmitted (cut_in r.store) message.items front × (taken.batch.items ≡ front ++ (items_for r.me (accepts_of r.me front) (start_of message r front) ++ items_for r.me (gives_for setup logs r.me message.from message.wants before) before))
+decided_parts setup message r taken own fits decided =
+    let items : List LogItem = taken.batch.items in
+    let front : List LogItem = take taken.applied items in
+    let left : List LogItem = drop taken.applied items in
+    let accepts : List LogItem = take taken.accepted left in
+    let outs : List LogItem = drop taken.accepted left in
+    let parts = parts_of setup message r taken front accepts outs (record { own = own; fits = fits; decided = decided; front_is = refl; accepts_are = refl; outs_are = refl }) in
+    let logs : Logs = with_items message.from front (known_to r) in
+    let before : Standing = before_of setup message r front in
+    let gives : List Body = gives_for setup logs r.me message.from message.wants before in
+    let outs_are : outs ≡ items_for r.me gives before =
+    append_cancel_left before.log outs (items_for r.me gives before) (sym parts.outs_end ∙ ap (λ (p : Standing). p.log) (answered_gives setup logs r.me message.from message.wants before) ∙ logged_items r.me gives before) in (
+      parts.admitted,
+      joined_back taken.applied items front left refl refl ∙ ap (λ (l : List LogItem). front ++ l) (joined_back taken.accepted left accepts outs refl refl ∙ ap (λ (l : List LogItem). l ++ outs) parts.accepts_are ∙ ap (λ (l : List LogItem). items_for r.me (accepts_of r.me front) (start_of message r front) ++ l) outs_are),
+    )

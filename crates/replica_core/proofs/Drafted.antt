@@ -1,5 +1,5 @@
 -- What a draft adds to how a replica stands, and to what it holds.
-use Rattle.std.proofs.Common.{◌≡◌, ◌≢◌, ℕ, ◌+◌, ◌-◌, ◌<◌, ◌≤◌, Bool, true, false, cond, List, [], ◌∷◌, ◌++◌, length, refl, sym, ap, subst, ◌∙◌, arith, length-set, length-append}
+use Rattle.std.proofs.Common.{◌≡◌, ◌≢◌, ℕ, ◌+◌, ◌-◌, ◌≤◌, Bool, true, false, cond, List, [], ◌∷◌, ◌++◌, length, refl, sym, ap, subst, ◌∙◌, arith, length-set, length-append}
 use Rattle.std.specs.Prelude.{slice_index, slice_set, Some, None, Option, sum_by, Contains, ◌==◌}
 use Rattle.std.specs.Option.{option_map_or}
 use Rattle.std.specs.List.{AllByRecursion}
@@ -21,8 +21,8 @@ use Rattle.spec_model.specs.declared.log.LogItem.{LogItem}
 use Rattle.spec_model.specs.Universe.{cells}
 use Rattle.run_model.specs.declared.message.Message.{Message}
 use Rattle.run_model.specs.declared.step.Outcome.TheVariants as outcomes
-use Rattle.run_model.specs.Logs.{Logs, item_at, log_at}
-use Rattle.run_model.specs.Rights.{body_gains, body_loses, even_share, first_count, held_count, out_gives}
+use Rattle.run_model.specs.Logs.{Logs, item_at}
+use Rattle.run_model.specs.Rights.{body_gains, body_loses, held_count, out_gives}
 use Rattle.run_model.specs.Worlds.{Standing, holding, logged, logged_all}
 use Rattle.run_model.specs.Steps.{AreAdmitted, accept_of, accepts_of, answered, cut_after, dropped, given, received}
 use Rattle.run_model.specs.Wants.{need_of, piece_for, still_wanted}

@@ -12,6 +12,7 @@ pub mod Next
 pub mod Drafted
 pub mod Finished
 pub mod Committed
+pub mod Replayed
 pub mod Showing
 pub mod Sending
 pub mod Holding

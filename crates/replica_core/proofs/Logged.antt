@@ -5,7 +5,6 @@ use Rattle.std.specs.List.{AllByRecursion}
 use Rattle.std.proofs.lemmas.List.{get_or-set_same, get_or-set_other, length_push, map-set}
 use Rattle.std.proofs.lemmas.List.Sums.{sum_by_push}
 use Rattle.spec_model.specs.declared.plan.Setup.{Setup}
-use Rattle.spec_model.specs.declared.spec.Spec.{Spec}
 use Rattle.spec_model.specs.declared.instance.Cell.{Cell}
 use Rattle.spec_model.specs.declared.right.Right.{Right}
 use Rattle.spec_model.specs.declared.right.Right.TheVariants as right
@@ -14,10 +13,7 @@ use Rattle.spec_model.specs.declared.log.Body.TheVariants as body
 use Rattle.spec_model.specs.declared.log.LogItem.{LogItem}
 use Rattle.spec_model.specs.Universe.{cells}
 use Rattle.run_model.specs.Logs.{Logs, log_at}
-use Rattle.spec_model.specs.declared.right.Piece.TheVariants as piece
-use Rattle.std.proofs.lemmas.Bool.{cond_both}
-use Rattle.run_model.proofs.Escrow.{same_right_is}
-use Rattle.run_model.specs.Rights.{body_gains, body_loses, held_count, out_gives, same_right}
+use Rattle.run_model.specs.Rights.{body_gains, body_loses, held_count}
 use Rattle.run_model.specs.Worlds.{Standing}
 use Rattle.run_model.specs.Fitting.{AreInRow, WantFits}
 use Rattle.run_model.proofs.Lists.{each_append, each_weaker}
@@ -146,12 +142,3 @@ logs_one setup b old new counts h =
           ∙ ap (λ (r : Replica). let p : Standing = record { log = own ++ item ∷ []; cut = slice_set (cut_in old.store) me (length own + 1); stamp = stamp; wants = r.wants; told = r.told; sendings = sendings } in p) h.kept;
       knows = h.logs ∙ ap (slice_set known me) (sym own_new) ∙ ap (λ m. slice_set known m (own_log new)) (sym mine);
     }
-
--- of a right that is given away no more is lost than is held, and of no other any
-pub loses_held : (spec : Spec) (given cell : Cell) (count : ℕ) (held : Cell → ℕ) → Contains (cells spec) cell → count ≤ held given → out_gives (right.Low cell) (body.Out 0 (right.Low given) (piece.Count count)) ≤ held cell
-loses_held spec given cell count held among le =
-    cond_both (same_right (right.Low given) (right.Low cell)) count 0 (λ n. n ≤ held cell)
-    (λ same. subst (λ c. count ≤ held c) (low_is given cell (same_right_is spec (right.Low given) (right.Low cell) among same)) le) (λ other. omega arith)
-  where
-    low_is : (a b : Cell) → right.Low a ≡ right.Low b → a ≡ b
-    low_is a b h = cc

@@ -1,14 +1,13 @@
 -- Items that a replica may log next, one after the other.
-use Rattle.std.proofs.Common.{◌≡◌, ◌≢◌, ℕ, zero, suc, ◌+◌, ◌-◌, ◌/◌, ◌<◌, ◌≤◌, ◌^◌, min, Bool, true, false, cond, List, [], ◌∷◌, ◌++◌, length, get_or, map, refl, sym, ap, subst, ◌∙◌, arith, length-append}
+use Rattle.std.proofs.Common.{◌≡◌, ℕ, zero, suc, ◌+◌, ◌-◌, ◌/◌, ◌<◌, ◌≤◌, ◌^◌, min, Bool, true, false, cond, List, [], ◌∷◌, ◌++◌, length, get_or, map, refl, sym, ap, subst, ◌∙◌, arith, length-append}
 use Rattle.std.specs.Prelude.{Some, None, Option, Contains, sum_by, slice_get, ◌==◌}
 use Rattle.std.specs.List.{AllByRecursion}
-use Rattle.std.proofs.lemmas.List.{append_assoc, append-nil, map-append}
+use Rattle.std.proofs.lemmas.List.{append_assoc, append-nil}
 use Rattle.spec_model.specs.declared.plan.Setup.{Setup}
 use Rattle.spec_model.specs.declared.spec.Spec.{Spec}
 use Rattle.spec_model.specs.declared.instance.Cell.{Cell}
 use Rattle.spec_model.specs.declared.right.Right.{Right}
 use Rattle.spec_model.specs.declared.right.Right.TheVariants as right
-use Rattle.spec_model.specs.declared.right.Held.{Held}
 use Rattle.spec_model.specs.declared.right.Held.TheVariants as held
 use Rattle.spec_model.specs.declared.right.Want.{Want}
 use Rattle.spec_model.specs.declared.right.WantAsk.{WantAsk}
@@ -20,20 +19,20 @@ use Rattle.spec_model.specs.declared.log.Body.TheVariants as body
 use Rattle.spec_model.specs.declared.log.LogItem.{LogItem}
 use Rattle.spec_model.specs.Universe.{cells}
 use Rattle.run_model.specs.Logs.{Logs, item_at, log_at}
-use Rattle.run_model.specs.Rights.{body_gains, body_loses, even_share, first_count, held_count, out_gives, same_right}
+use Rattle.run_model.specs.Rights.{body_loses, even_share, first_count, held_count, same_right}
 use Rattle.run_model.specs.Worlds.{Standing, Sending, holding, logged, logged_all}
 use Rattle.run_model.specs.Steps.{accept_of, accepts_of, answered, given}
 use Rattle.run_model.specs.Wants.{need_of, piece_for}
-use Rattle.run_model.specs.Fitting.{AskFits, BodyFits, ItemFits, PieceFits, RightFits, WantFits}
+use Rattle.run_model.specs.Fitting.{AskFits, BodyFits, ItemFits, RightFits, WantFits}
 use Rattle.run_model.proofs.Lists.{each_append, each_at}
 use Rattle.run_model.proofs.Escrow.{same_right_is}
 use Rattle.run_model.proofs.Agreed.{AllAgree, gains_all_agree}
-use Rattle.causal_store.specs.Stores.{IsStore, cut_in}
-use Rattle.replica_core.specs.Replicas.{HasLogged, HasLoggedAll, HasRoom, IsKnown, IsReplica, KnowsOwn, item_of, known_to, own_log, standing_of}
+use Rattle.causal_store.specs.Stores.{IsStore}
+use Rattle.replica_core.specs.Replicas.{HasLogged, HasRoom, IsKnown, IsReplica, item_of, known_to, own_log, standing_of}
 use Rattle.replica_core.specs.Decisions.{AreNext, IsNext}
 use Rattle.replica_core.specs.declared.replica.Replica.{Replica}
-use Rattle.replica_core.proofs.Changes.{logged_alone, logged_append, logged_both, logged_these, others_known, own_again}
-use Rattle.replica_core.proofs.Logged.{OthersSame, all_agree, body_agrees, known_same}
+use Rattle.replica_core.proofs.Changes.{logged_append, others_known}
+use Rattle.replica_core.proofs.Logged.{OthersSame, all_agree, known_same}
 use Rattle.replica_core.proofs.Received.{cut_long, each_in_log}
 
 -- ---- one item

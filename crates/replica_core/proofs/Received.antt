@@ -1,6 +1,6 @@
 -- What a replica applies of a message.
-use Rattle.std.proofs.Common.{◌≡◌, ◌≢◌, inl, inr, ℕ, zero, suc, ◌+◌, ◌-◌, ◌<◌, ◌≤◌, true, false, List, [], ◌∷◌, ◌++◌, length, get_or, map, set, take, drop, refl, sym, ap, subst, ◌∙◌, arith, length-set, length-append, length-drop, ltb-false}
-use Rattle.std.specs.Prelude.{slice_get, slice_index, slice_index_or, slice_set, Some, All, not, nat_lt, sum_by}
+use Rattle.std.proofs.Common.{◌≡◌, ◌≢◌, inl, inr, ℕ, zero, suc, ◌+◌, ◌-◌, ◌<◌, ◌≤◌, true, false, List, [], ◌∷◌, ◌++◌, length, map, set, take, drop, refl, sym, ap, subst, ◌∙◌, arith, length-set, length-append, length-drop, ltb-false}
+use Rattle.std.specs.Prelude.{slice_get, slice_index, slice_index_or, slice_set, Some, not, nat_lt, sum_by}
 use Rattle.std.specs.List.{AllByRecursion}
 use Rattle.std.proofs.lemmas.List.{get_or-set_same, get_or-set_other, map-set, length-map}
 use Rattle.std.proofs.lemmas.Bool.{cases_Bool, cases_eq}
@@ -16,9 +16,9 @@ use Rattle.run_model.specs.declared.message.Message.{Message}
 use Rattle.run_model.specs.Logs.{Logs, item_at, log_at, with_item}
 use Rattle.run_model.specs.Rights.{body_gains}
 use Rattle.run_model.specs.Worlds.{Standing, Sending, joined, logged_all}
-use Rattle.run_model.specs.Steps.{AreAdmitted, accept_of, accepts_of, cut_after, received, unseen}
+use Rattle.run_model.specs.Steps.{AreAdmitted, accept_of, accepts_of, cut_after, received}
 use Rattle.run_model.specs.Fitting.{AreInRow, ItemFits, MessageFits, WantFits}
-use Rattle.run_model.proofs.Lists.{each_filter, each_take, each_weaker, get_behind}
+use Rattle.run_model.proofs.Lists.{each_filter, each_weaker, get_behind}
 use Rattle.run_model.proofs.Own.{applied_one, own_at, own_drop, own_front, unseen_own}
 use Rattle.run_model.proofs.Agreed.{Agrees, AllAgree, gains_all_agree}
 use Rattle.causal_store.specs.Stores.{IsStore, cut_in}

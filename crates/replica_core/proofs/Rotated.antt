@@ -1,11 +1,7 @@
 -- Lists whose elements are taken from the front one by one and put behind the others.
-use Rattle.std.proofs.Common.{◌≡◌, ℕ, zero, suc, ◌+◌, ◌-◌, ◌<◌, ◌≤◌, List, [], ◌∷◌, ◌++◌, length, drop, take, Bool, true, false, cond, filter, map, refl, sym, ap, subst, ◌∙◌, arith, length-append, length-drop}
+use Rattle.std.proofs.Common.{◌≡◌, ℕ, zero, suc, ◌+◌, ◌<◌, ◌≤◌, List, [], ◌∷◌, ◌++◌, length, drop, sym, ap, ◌∙◌, arith, length-append, length-drop}
 use Rattle.std.specs.Prelude.{slice_get, Some}
-use Rattle.std.specs.List.{AllByRecursion}
-use Rattle.std.proofs.lemmas.List.{append-nil, append_assoc, drop_all, length-map, take_all}
-use Rattle.run_model.proofs.Lists.{each_append}
-use Rattle.replica_core.proofs.Lists.{filter_at, map_at}
-use Rattle.replica_core.proofs.Needed.{each_dropped}
+use Rattle.std.proofs.lemmas.List.{append_assoc, drop_all}
 
 -- some are left in front
 pub rotated_some : {X : Type 0} (xs made now : List X) (k : ℕ) → k < length xs → now ≡ drop k xs ++ made → 0 < length now
@@ -31,9 +27,6 @@ rotated {X} (y ∷ xs) made now rest (suc k) x lt is first =
 pub rotated_behind : {X : Type 0} (xs made rest new : List X) (k : ℕ) (y : X) → rest ≡ drop (k + 1) xs ++ made → new ≡ rest ++ y ∷ [] → new ≡ drop (k + 1) xs ++ (made ++ y ∷ [])
 rotated_behind {X} xs made rest new k y is put = put ∙ ap (λ (l : List X). l ++ y ∷ []) is ∙ append_assoc (drop (k + 1) xs) made (y ∷ [])
 
--- at the end all were seen
-pub rotated_all : {X Y : Type 0} (f : List X → List Y) (xs : List X) (k : ℕ) → length xs ≤ k → f (take k xs) ≡ f xs
-rotated_all f xs k le = ap f (take_all k xs le)
-
+-- at the end only those are left that were put behind
 pub rotated_none : {X : Type 0} (xs made now : List X) (k : ℕ) → length xs ≤ k → now ≡ drop k xs ++ made → now ≡ made
 rotated_none {X} xs made now k le is = is ∙ ap (λ (l : List X). l ++ made) (drop_all k xs le)

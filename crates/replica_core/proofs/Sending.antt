@@ -1,5 +1,5 @@
 -- A message that is sent fits the replica that it is sent to.
-use Rattle.std.proofs.Common.{◌≡◌, ◌≢◌, ℕ, zero, suc, List, [], ◌∷◌, length, map, take, drop, sym, ap, subst, ◌∙◌, arith, length-take}
+use Rattle.std.proofs.Common.{◌≡◌, ◌≢◌, ℕ, List, [], ◌∷◌, length, map, take, drop, sym, ap, subst, ◌∙◌, arith, length-take}
 use Rattle.std.specs.Prelude.{slice_index, slice_index_or}
 use Rattle.std.specs.List.{AllByRecursion}
 use Rattle.std.proofs.lemmas.List.{length-map}
@@ -9,7 +9,6 @@ use Rattle.spec_model.specs.declared.right.Want.{Want}
 use Rattle.spec_model.specs.declared.right.WantAsk.{WantAsk}
 use Rattle.spec_model.specs.declared.right.WantAsk.TheVariants as asked
 use Rattle.spec_model.specs.declared.log.LogItem.{LogItem}
-use Rattle.run_model.specs.Logs.{Logs, log_at}
 use Rattle.run_model.specs.Wants.{ask_less, want_less}
 use Rattle.run_model.specs.Fitting.{AreInRow, AskFits, ItemFits, MessageFits, WantFits}
 use Rattle.run_model.proofs.Lists.{each_take}

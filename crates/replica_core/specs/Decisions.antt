@@ -76,6 +76,9 @@ IsDecided setup r batch =
 pub record StaysSame (setup : Setup) (old new : Replica) : Type 0 where
   pub me : new.me ≡ old.me
   pub own : IsReplica setup old.me new
+  pub knows : known_to new ≡ known_to old
+  pub wants : new.wants ≡ old.wants
+  pub told : new.told ≡ old.told
   pub room : (n : ℕ) → HasRoom n old → HasRoom n new
   pub decides : (inst : Inst) (d : Decision) → Decides setup inst old d → Decides setup inst new d
   pub taken : (message : Message) (taken : Taken) → IsTaken setup message old taken → IsTaken setup message new taken

@@ -6,6 +6,7 @@ mod draft;
 mod drafting;
 mod laws;
 mod pieces;
+mod recovery;
 mod replica;
 mod reports;
 mod requesting;

@@ -46,7 +46,7 @@ impl Replica {
     }
 
     /// Applies the next items of another log.
-    fn learn(&mut self, spec: &Spec, items: &[LogItem])
+    pub(crate) fn learn(&mut self, spec: &Spec, items: &[LogItem])
         requires store { CanLearn spec.now self.old items.now }
         requires ready { (more : List ItemOf) × IsReadyFor self.old (items.now ++ more) }
         ensures learned { HasLearned spec.now items.now self.old self.new }

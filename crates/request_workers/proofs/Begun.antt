@@ -1,6 +1,6 @@
 -- Nodes and links before the first line of a schedule.
-use Rattle.std.proofs.Common.{◌≡◌, ◌⊎◌, inl, inr, ℕ, zero, suc, ◌+◌, ◌*◌, ◌<◌, ◌≤◌, List, [], ◌∷◌, ◌++◌, length, replicate, refl, sym, ap, subst, ◌∙◌, arith}
-use Rattle.std.specs.Prelude.{slice_get, slice_index_or, Some, None, Option, map}
+use Rattle.std.proofs.Common.{◌≡◌, inl, inr, ℕ, zero, suc, ◌+◌, ◌<◌, ◌≤◌, List, [], ◌∷◌, ◌++◌, length, replicate, refl, sym, ap, subst, ◌∙◌, arith}
+use Rattle.std.specs.Prelude.{slice_get, slice_index_or, Some, map}
 use Rattle.std.specs.List.{AllByRecursion}
 use Rattle.std.proofs.lemmas.List.{length-append, length-replicate}
 use Rattle.std.proofs.lemmas.Option.{slice_get_within}
@@ -8,8 +8,7 @@ use Rattle.spec_model.specs.declared.plan.Setup.{Setup}
 use Rattle.run_model.specs.declared.message.Message.{Message}
 use Rattle.run_model.specs.declared.step.StepEntry.{StepEntry}
 use Rattle.run_model.specs.Logs.{log_at}
-use Rattle.run_model.specs.Worlds.{Sending, Standing, World, first_standing, first_world, logs_of, sent_to}
-use Rattle.run_model.specs.Steps.{links_of}
+use Rattle.run_model.specs.Worlds.{Sending, Standing, first_standing, first_world, logs_of, sent_to}
 use Rattle.run_model.specs.Runs.{InOrder}
 use Rattle.run_model.specs.Locals.{Local, StandsIn, first_local}
 use Rattle.run_model.proofs.Joined.{knows_nothing}

@@ -1,6 +1,6 @@
 -- Nodes that have taken a whole schedule: their histories are those of a legal run of it.
-use Rattle.std.proofs.Common.{◌≡◌, ◌≢◌, ◌⊎◌, inl, inr, ℕ, zero, suc, ◌+◌, ◌*◌, ◌<◌, ◌≤◌, ◌^◌, Bool, true, false, cond, eqb, List, [], ◌∷◌, ◌++◌, length, take, refl, sym, ap, subst, ◌∙◌, arith}
-use Rattle.std.specs.Prelude.{slice_get, slice_index, slice_index_or, Some, None, Option, Result, Ok, Err, IfOk, map, Contains}
+use Rattle.std.proofs.Common.{◌≡◌, inl, inr, ℕ, zero, suc, ◌+◌, ◌<◌, ◌≤◌, ◌^◌, cond, List, [], ◌∷◌, ◌++◌, length, take, refl, sym, ap, subst, ◌∙◌, arith}
+use Rattle.std.specs.Prelude.{slice_get, slice_index, Some, Option, Result, Ok, Err, IfOk, map, Contains}
 use Rattle.ind_base.specs.declared.refusal.NoMemory.{NoMemory}
 use Rattle.std.specs.List.{AllByRecursion}
 use Rattle.std.proofs.lemmas.Bool.{ne_eqb, cases_lt}
@@ -13,7 +13,6 @@ use Rattle.spec_model.specs.declared.right.Right.TheVariants as right
 use Rattle.spec_model.specs.declared.log.LogItem.{LogItem}
 use Rattle.spec_model.specs.Fits.{IsWellFormed}
 use Rattle.spec_model.specs.Universe.{cells}
-use Rattle.run_model.specs.declared.message.Message.{Message}
 use Rattle.run_model.specs.declared.step.Order.{Order}
 use Rattle.run_model.specs.declared.step.StepEntry.{StepEntry}
 use Rattle.run_model.specs.declared.history.Final.{Final}
@@ -24,16 +23,16 @@ use Rattle.run_model.specs.Worlds.{Standing, World, logs_of}
 use Rattle.run_model.specs.Runs.{InOrder, asks_in, entries_at}
 use Rattle.run_model.specs.Balance.{RunsAreSound}
 use Rattle.run_model.specs.Finals.{final_of, lasts_from}
-use Rattle.run_model.specs.Locals.{FinalsAgree, Local, RunsInOrder, StandsIn}
+use Rattle.run_model.specs.Locals.{FinalsAgree, Local, RunsInOrder}
 use Rattle.run_model.proofs.WorldLogs.{logs_there}
-use Rattle.run_trace.specs.Merging.{AreHistories, AreOf, IsMerged}
+use Rattle.run_trace.specs.Merging.{AreOf}
 use Rattle.causal_store.specs.Stores.{IsShort, logs_in}
 use Rattle.replica_core.specs.Laws.{FirstsKeepBounds, HoldsAreSmall}
 use Rattle.replica_core.specs.Replicas.{HasRoom, IsReplica, known_to, own_log, standing_of}
 use Rattle.request_workers.specs.declared.node.Node.{Node}
 use Rattle.request_workers.specs.Histories.{AreLegal}
 use Rattle.request_workers.proofs.Linked.{get_map}
-use Rattle.request_workers.specs.Nodes.{AreDone, AreRunning, IsNode, history_of, local_of, sendings_at}
+use Rattle.request_workers.specs.Nodes.{AreDone, IsNode, history_of, local_of, sendings_at}
 
 -- ---- a node at the end
 

@@ -1,7 +1,6 @@
 -- The links as replicas take their orders.
-use Rattle.std.proofs.Common.{◌≡◌, ◌≢◌, ◌⊎◌, inl, inr, ℕ, zero, suc, ◌+◌, ◌*◌, ◌<◌, ◌≤◌, Bool, true, false, cond, eqb, List, [], ◌∷◌, ◌++◌, length, get_or, set, take, refl, sym, ap, subst, ◌∙◌, arith, length-set}
-use Rattle.std.specs.Prelude.{slice_get, slice_set, slice_index_or, Some, None, Option, map, filter, if◌then◌else◌, ◌&&◌}
-use Rattle.std.specs.List.{AllByRecursion}
+use Rattle.std.proofs.Common.{◌≡◌, ◌≢◌, inl, inr, ℕ, zero, suc, ◌+◌, ◌<◌, ◌≤◌, Bool, true, false, eqb, List, [], ◌∷◌, ◌++◌, length, take, refl, sym, ap, subst, ◌∙◌, arith, length-set}
+use Rattle.std.specs.Prelude.{slice_get, slice_set, slice_index_or, Some, map, filter, if◌then◌else◌, ◌&&◌}
 use Rattle.std.proofs.lemmas.Bool.{eq-eqb, ne_eqb}
 use Rattle.std.proofs.lemmas.Bool.Decides.{eqb_tells}
 use Rattle.std.proofs.lemmas.List.{map-append, append-nil, length-append, length-map, append_assoc, get_or-set_same, get_or-set_other}
@@ -13,7 +12,6 @@ use Rattle.run_model.specs.declared.step.Ask.TheVariants as asks
 use Rattle.run_model.specs.declared.step.Order.{Order}
 use Rattle.run_model.specs.Worlds.{Sending, Standing, World, sent_to}
 use Rattle.run_model.specs.Steps.{Hears, links_of}
-use Rattle.run_model.specs.Fitting.{MessageFits}
 use Rattle.run_model.proofs.Lists.{get_push}
 use Rattle.scenario_text.specs.Numbered.{AreNumbered, IsNumbered, is_send, sends_of, sends_to}
 use Rattle.request_workers.specs.Nodes.{AreLinks, IsPut, link_place, put_on, sending_of, sendings_at}

@@ -1,23 +1,19 @@
 -- The lines of a schedule, each taken by its node.
-use Rattle.std.proofs.Common.{◌≡◌, ◌≢◌, ℕ, zero, suc, ◌+◌, ◌<◌, ◌≤◌, ◌^◌, List, [], ◌∷◌, ◌++◌, length, get_or, take, refl, sym, ap, subst, ◌∙◌, arith, false}
+use Rattle.std.proofs.Common.{◌≡◌, ℕ, ◌+◌, ◌<◌, ◌≤◌, List, [], ◌∷◌, ◌++◌, length, get_or, take, refl, sym, ap, subst, ◌∙◌, arith}
 use Rattle.std.specs.Prelude.{slice_get, slice_set, Some, None, Option}
-use Rattle.std.specs.List.{AllByRecursion}
 use Rattle.std.proofs.lemmas.List.{take_more, length-take-le}
-use Rattle.std.proofs.lemmas.Option.{slice_get-get_or, slice_get_within}
+use Rattle.std.proofs.lemmas.Option.{slice_get-get_or}
 use Rattle.spec_model.specs.declared.plan.Setup.{Setup}
 use Rattle.spec_model.specs.declared.instance.Inst.{Inst}
 use Rattle.run_model.specs.declared.message.Message.{Message}
-use Rattle.run_model.specs.declared.step.Ask.{Ask}
 use Rattle.run_model.specs.declared.step.Ask.TheVariants as asks
 use Rattle.run_model.specs.declared.step.Order.{Order}
 use Rattle.run_model.specs.Worlds.{Sending}
 use Rattle.run_model.specs.Steps.{Hears, links_of}
-use Rattle.run_model.specs.Fitting.{MessageFits}
 use Rattle.run_model.specs.Locals.{LocalStepIsOne}
 use Rattle.run_model.proofs.Lists.{each_at}
 use Rattle.scenario_text.specs.WellFormed.{OrderFits, ScheduleFits, StepFits}
-use Rattle.scenario_text.specs.Built.{StaysUp}
-use Rattle.scenario_text.specs.Numbered.{IsAskNumbered, IsNumbered, sends_of, sends_to}
+use Rattle.scenario_text.specs.Numbered.{IsAskNumbered, IsNumbered, sends_to}
 use Rattle.request_workers.specs.declared.node.Node.{Node}
 use Rattle.request_workers.specs.Nodes.{AreRunning, CanStepAt, IsCounted, IsPut, SendsAt, StepsAt, link_place, put_on, sending_of, sendings_at}
 use Rattle.request_workers.proofs.Running.{IsStep, after_of, can_step, running_more}

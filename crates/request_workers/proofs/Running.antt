@@ -1,5 +1,5 @@
 -- Nodes that take their orders one after the other.
-use Rattle.std.proofs.Common.{◌≡◌, ◌≢◌, ◌⊎◌, inl, inr, ℕ, zero, suc, ◌+◌, ◌*◌, ◌<◌, ◌≤◌, ◌^◌, Bool, true, false, cond, eqb, List, [], ◌∷◌, ◌++◌, length, get_or, set, take, replicate, refl, sym, ap, subst, ◌∙◌, arith, length-set}
+use Rattle.std.proofs.Common.{◌≡◌, ◌≢◌, inl, inr, ℕ, ◌+◌, ◌*◌, ◌<◌, ◌≤◌, Bool, true, false, eqb, List, [], ◌∷◌, ◌++◌, length, get_or, refl, sym, ap, subst, ◌∙◌, arith, length-set}
 use Rattle.std.specs.Prelude.{slice_get, slice_set, Some, None, Option, Result, Ok, Err, IfOk, map, filter, if◌then◌else◌}
 use Rattle.std.specs.List.{AllByRecursion}
 use Rattle.std.proofs.lemmas.Bool.{eq-eqb, ne_eqb}
@@ -18,11 +18,11 @@ use Rattle.run_model.specs.declared.step.StepEntry.{StepEntry}
 use Rattle.run_model.specs.Logs.{log_at}
 use Rattle.run_model.specs.Worlds.{Sending, Standing, World, first_world, logs_of}
 use Rattle.run_model.specs.Steps.{Hears, links_of, next_stamp}
-use Rattle.run_model.specs.Runs.{InOrder, PrecedesFirst, Runs, WorldSteps, asks_in, asks_of, entries_at}
+use Rattle.run_model.specs.Runs.{InOrder, Runs, WorldSteps, asks_in, asks_of, entries_at}
 use Rattle.run_model.specs.Locals.{Local, LocalSteps, LocalStepIsOne, StandsIn, StepsHere}
 use Rattle.run_model.proofs.Lists.{each_append, each_weaker, get_set_same, get_set_other}
 use Rattle.run_model.proofs.WorldLogs.{links_there, logs_there, set_log_other, set_log_same}
-use Rattle.replica_core.specs.Replicas.{HasRoom, IsReplica, own_log}
+use Rattle.replica_core.specs.Replicas.{IsReplica, own_log}
 use Rattle.request_workers.specs.declared.node.Node.{Node}
 use Rattle.request_workers.specs.Nodes.{AreLinks, AreRunning, CanStep, CanStepAt, IsCounted, IsNode, NodeSteps, SendsAt, StepsAt, local_of, sending_of, sendings_at}
 

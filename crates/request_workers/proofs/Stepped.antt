@@ -1,5 +1,5 @@
 -- The steps of a node.
-use Rattle.std.proofs.Common.{◌≡◌, ◌≢◌, ℕ, ◌+◌, ◌<◌, ◌≤◌, ◌^◌, List, [], ◌∷◌, ◌++◌, length, max, refl, sym, ap, subst, ◌∙◌, arith}
+use Rattle.std.proofs.Common.{◌≡◌, ◌≢◌, ℕ, ◌+◌, List, [], ◌∷◌, ◌++◌, length, max, refl, sym, ap, subst, ◌∙◌, arith}
 use Rattle.std.specs.Prelude.{slice_set, Some, None, Result, Ok, Err, OnOk}
 use Rattle.std.proofs.lemmas.List.{append-nil}
 use Rattle.spec_model.specs.declared.plan.Setup.{Setup}
@@ -10,10 +10,10 @@ use Rattle.run_model.specs.declared.step.Ask.TheVariants as asks
 use Rattle.run_model.specs.declared.step.Outcome.{Outcome}
 use Rattle.run_model.specs.declared.step.Outcome.TheVariants as outcomes
 use Rattle.run_model.specs.declared.step.StepEntry.{StepEntry}
-use Rattle.run_model.specs.Worlds.{Sending, Standing}
+use Rattle.run_model.specs.Worlds.{Sending}
 use Rattle.run_model.specs.Steps.{message_of}
 use Rattle.run_model.specs.Locals.{LocalSteps}
-use Rattle.replica_core.specs.Replicas.{HasAnswered, HasTaken, IsReplica, known_to, own_log, standing_of, with_items}
+use Rattle.replica_core.specs.Replicas.{HasAnswered, HasTaken, known_to, own_log, standing_of, with_items}
 use Rattle.replica_core.specs.declared.replica.Replica.{Replica}
 use Rattle.replica_core.proofs.Changes.{set_back}
 use Rattle.request_workers.specs.declared.node.Node.{Node}

@@ -1,4 +1,4 @@
-use Rattle.std.proofs.Common.{ℕ, ◌<◌, ◌^◌, subst, arith}
+use Rattle.std.proofs.Common.{◌<◌, ◌^◌, subst, arith}
 use Rattle.run_model.specs.Fitting.{PieceFits}
 use Rattle.replica_core.proofs.pieces.gain_piece.Goals as goal
 

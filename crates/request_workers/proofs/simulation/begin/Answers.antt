@@ -1,4 +1,3 @@
-use Rattle.std.proofs.Common.{◌≡◌}
 use Rattle.request_workers.proofs.Begun.{first_more}
 use Rattle.request_workers.proofs.simulation.begin.Goals as goal
 

@@ -1,4 +1,3 @@
-use Rattle.std.proofs.Common.{◌≡◌}
 use Rattle.request_workers.proofs.Stepped.{on_ok_then}
 use Rattle.request_workers.proofs.Running.{can_at, stepped_at}
 use Rattle.request_workers.proofs.simulation.request_at.Goals as goal

@@ -1,4 +1,4 @@
-use Rattle.std.proofs.Common.{◌≡◌, ◌≢◌, subst, sym, ◌∙◌}
+use Rattle.std.proofs.Common.{◌∙◌}
 use Rattle.request_workers.proofs.Running.{can_at, sent_at}
 use Rattle.request_workers.proofs.simulation.send_at.Goals as goal
 

@@ -1,4 +1,4 @@
-use Rattle.std.proofs.Common.{◌≡◌, subst, sym}
+use Rattle.std.proofs.Common.{subst, sym}
 use Rattle.run_model.specs.Fitting.{MessageFits}
 use Rattle.request_workers.proofs.Stepped.{on_ok_then}
 use Rattle.request_workers.proofs.Running.{can_at, stepped_at}

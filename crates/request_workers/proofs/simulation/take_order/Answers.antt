@@ -1,4 +1,4 @@
-use Rattle.std.proofs.Common.{◌≡◌, subst, sym, ap, ◌∙◌, ◌<◌, ◌≤◌, ◌^◌, ℕ, length, arith}
+use Rattle.std.proofs.Common.{◌≡◌, subst, sym, ap, ◌∙◌, ◌<◌, ℕ, length, arith}
 use Rattle.std.specs.Prelude.{Some, slice_get}
 use Rattle.run_model.specs.declared.step.Ask.TheVariants as asks
 use Rattle.request_workers.specs.Nodes.{put_on}

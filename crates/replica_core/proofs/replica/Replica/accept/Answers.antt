@@ -1,5 +1,5 @@
 use Rattle.std.proofs.Common.{◌≡◌, ◌+◌, ◌*◌, ◌^◌, ◌++◌, ◌∷◌, [], List, get_or, length, ap, ◌∙◌, arith}
-use Rattle.std.specs.Prelude.{slice_set, slice_get, Some, Option}
+use Rattle.std.specs.Prelude.{slice_set, Some, Option}
 use Rattle.std.specs.Option.{option_map_or}
 use Rattle.spec_model.specs.declared.log.Body.TheVariants as body
 use Rattle.spec_model.specs.declared.log.LogItem.{LogItem}

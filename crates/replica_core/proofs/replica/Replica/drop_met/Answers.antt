@@ -1,4 +1,4 @@
-use Rattle.std.proofs.Common.{◌≡◌, ◌<◌, ◌+◌, ◌++◌, ◌∷◌, [], List, drop, length, take, arith, ap, ◌∙◌, sym, subst}
+use Rattle.std.proofs.Common.{◌<◌, ◌+◌, ◌++◌, ◌∷◌, [], List, drop, length, take, arith, ap, ◌∙◌, sym, subst}
 use Rattle.spec_model.specs.declared.right.Want.{Want}
 use Rattle.std.specs.Prelude.{not}
 use Rattle.std.proofs.lemmas.List.{append_assoc}

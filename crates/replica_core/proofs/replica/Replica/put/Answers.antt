@@ -1,9 +1,7 @@
-use Rattle.std.proofs.Common.{◌≡◌, [], sym, ap, subst, ◌∙◌}
+use Rattle.std.proofs.Common.{[], sym, ap, subst, ◌∙◌}
 use Rattle.spec_model.specs.declared.log.Body.{Body}
-use Rattle.spec_model.specs.declared.right.Right.TheVariants as right
 use Rattle.run_model.specs.Fitting.{BodyFits}
-use Rattle.run_model.specs.Rights.{body_loses, held_count}
-use Rattle.replica_core.specs.Replicas.{HasLogged, IsKnown, item_of, known_to, own_log, standing_of}
+use Rattle.replica_core.specs.Replicas.{HasLogged, IsKnown, item_of, known_to, standing_of}
 use Rattle.replica_core.proofs.Next.{loses_as}
 use Rattle.replica_core.proofs.replica.Replica.put.Goals as goal
 

@@ -1,4 +1,4 @@
-use Rattle.std.proofs.Common.{◌≡◌, ◌≤◌, ◌++◌, List, length, ap, ◌∙◌, subst, arith}
+use Rattle.std.proofs.Common.{◌≡◌, ◌++◌, List, length, ap, ◌∙◌, subst, arith}
 use Rattle.spec_model.specs.declared.right.Want.{Want}
 use Rattle.spec_model.specs.declared.log.LogItem.{LogItem}
 use Rattle.replica_core.specs.Drafts.{HasDraftedAnswers}

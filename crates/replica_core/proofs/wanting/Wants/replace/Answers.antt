@@ -1,4 +1,4 @@
-use Rattle.std.proofs.Common.{◌≡◌, ◌<◌, ◌+◌, ◌++◌, ◌∷◌, [], List, cond, length, drop, take, arith, ap, ◌∙◌, sym, length-append, length-drop, length-take}
+use Rattle.std.proofs.Common.{◌<◌, ◌+◌, ◌++◌, ◌∷◌, [], List, cond, length, drop, take, arith, ap, ◌∙◌, sym, length-append, length-drop, length-take}
 use Rattle.std.proofs.lemmas.List.{length-map}
 use Rattle.spec_model.specs.declared.right.Want.{Want}
 use Rattle.run_model.specs.Wants.{is_on, replaced}

@@ -1,4 +1,3 @@
-use Rattle.std.proofs.Common.{◌≡◌}
 use Rattle.request_workers.proofs.Stepped.{on_ok_then, requested}
 use Rattle.request_workers.proofs.node.Node.request.Goals as goal
 

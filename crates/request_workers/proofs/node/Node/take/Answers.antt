@@ -1,4 +1,3 @@
-use Rattle.std.proofs.Common.{◌≡◌}
 use Rattle.request_workers.proofs.Stepped.{on_ok_then, took}
 use Rattle.request_workers.proofs.node.Node.take.Goals as goal
 

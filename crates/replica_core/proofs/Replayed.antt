@@ -1,0 +1,266 @@
+-- What was committed is logged again, batch by batch.
+use Rattle.std.proofs.Common.{◌≡◌, ◌≢◌, inl, inr, ℕ, zero, suc, ◌+◌, ◌<◌, ◌≤◌, List, [], ◌∷◌, ◌++◌, length, get_or, map, set, take, drop, refl, sym, ap, subst, ◌∙◌, arith, length-append, length-set}
+use Rattle.std.specs.Prelude.{All, Some, slice_get, slice_index, slice_set}
+use Rattle.std.specs.List.{AllByRecursion, flat_map}
+use Rattle.std.proofs.lemmas.List.{append_assoc, append-nil, get_or-set_same, get_or-set_other}
+use Rattle.std.proofs.lemmas.List.Concat.{flat_map-cons}
+use Rattle.std.proofs.lemmas.Grind.{flat_map-append}
+use Rattle.std.proofs.lemmas.Option.{slice_get_within}
+use Rattle.spec_model.specs.declared.plan.Setup.{Setup}
+use Rattle.spec_model.specs.declared.instance.Inst.{Inst}
+use Rattle.spec_model.specs.Fits.{InstFits}
+use Rattle.spec_model.specs.declared.log.Body.{Body}
+use Rattle.spec_model.specs.declared.log.Body.TheVariants as body
+use Rattle.spec_model.specs.declared.log.LogItem.{LogItem}
+use Rattle.run_model.specs.declared.batch.Batch.{Batch}
+use Rattle.run_model.specs.declared.message.Message.{Message}
+use Rattle.run_model.specs.Logs.{Logs, item_at, log_at}
+use Rattle.run_model.specs.Worlds.{Standing, logged, logged_all}
+use Rattle.run_model.specs.Steps.{AreAdmitted, accepts_of, cut_after}
+use Rattle.run_model.specs.Fitting.{AreInRow, MessageFits}
+use Rattle.run_model.proofs.Lists.{each_append, each_weaker}
+use Rattle.causal_store.specs.Stores.{IsStore, cut_in}
+use Rattle.replica_core.specs.declared.decision.Decision.TheVariants as decision
+use Rattle.replica_core.specs.declared.decision.Taken.{Taken}
+use Rattle.replica_core.specs.declared.replica.Replica.{Replica}
+use Rattle.replica_core.specs.Decisions.{AreNext, Decides, IsDecided, StaysSame}
+use Rattle.replica_core.specs.Recovered.{AreDecided, HasReplayed, with_all}
+use Rattle.replica_core.specs.Replicas.{CanLearn, HasLearned, HasLoggedAll, IsKnown, IsReplica, known_to, own_log, standing_of, with_items}
+use Rattle.replica_core.proofs.Changes.{set_again}
+use Rattle.replica_core.proofs.Committed.{act_next, back_of, before_of, decided_parts, front_of, start_of, stays_same}
+use Rattle.replica_core.proofs.Lists.{drop_at_item, take_more}
+use Rattle.replica_core.proofs.Next.{accepts_free, free_next, gives_few, gives_for, gives_next, items_for, items_long, logged_items}
+use Rattle.replica_core.proofs.Received.{Learns, accepts_few, can_learn, cut_counts, items_placed, learned_cut, learned_replica, part_of}
+
+-- ---- logs with more items
+
+pub with_all_append : (xs ys : List LogItem) (logs : Logs) → with_all (xs ++ ys) logs ≡ with_all ys (with_all xs logs)
+with_all_append [] ys logs = refl
+with_all_append (x ∷ xs) ys logs = with_all_append xs ys (slice_set logs x.origin (log_at logs x.origin ++ x ∷ []))
+
+-- items of one log go to its end
+pub with_all_of : (o : ℕ) (items : List LogItem) (logs : Logs) → AllByRecursion (λ i. i.origin ≡ o) items → o < length logs → with_all items logs ≡ with_items o items logs
+with_all_of o [] logs all lt = sym (set_to logs o)
+  where
+    set_to : (logs : Logs) (i : ℕ) → set logs i (log_at logs i ++ []) ≡ logs
+    set_to [] i = refl
+    set_to (x ∷ logs) zero = ap (λ (l : List LogItem). l ∷ logs) (append-nil x)
+    set_to (x ∷ logs) (suc i) = ap (λ (l : Logs). x ∷ l) (set_to logs i)
+with_all_of o (x ∷ items) logs all lt =
+    let next : Logs = slice_set logs o (log_at logs o ++ x ∷ []) in
+    ap (λ i. with_all items (slice_set logs i (log_at logs i ++ x ∷ []))) all.0 ∙ with_all_of o items next all.1 (omega (arith, lt, length-set logs o (log_at logs o ++ x ∷ [])))
+    ∙ ap (λ (l : List LogItem). slice_set next o (l ++ items)) (get_or-set_same logs o (log_at logs o ++ x ∷ []) [] lt) ∙ set_again logs o (log_at logs o ++ x ∷ []) ((log_at logs o ++ x ∷ []) ++ items)
+    ∙ ap (slice_set logs o) (append_assoc (log_at logs o) (x ∷ []) items)
+
+-- ---- where the own items begin
+
+pub split_count : (me : ℕ) (front own items : List LogItem) (n : ℕ) → items ≡ front ++ own → AllByRecursion (λ i. i.origin ≢ me) front → AllByRecursion (λ i. i.origin ≡ me) own
+    → All (λ i. i.origin ≢ me) (take n items) → ((x : LogItem) → slice_get items n ≡ Some x → x.origin ≡ me) → n ≤ length items → n ≡ length front
+split_count me front own items n is others mine before here within =
+    counted front own n others mine (subst (λ (l : List LogItem). All (λ (i : LogItem). i.origin ≢ me) (take n l)) is before) (λ x there. here x (ap (λ (l : List LogItem). slice_get l n) is ∙ there)) (omega (arith, within, ap length is))
+  where
+    counted : (front own : List LogItem) (n : ℕ) → AllByRecursion (λ i. i.origin ≢ me) front → AllByRecursion (λ i. i.origin ≡ me) own → All (λ i. i.origin ≢ me) (take n (front ++ own)) → ((x : LogItem) → slice_get (front ++ own) n ≡ Some x → x.origin ≡ me)
+        → n ≤ length (front ++ own) → n ≡ length front
+    counted [] own zero others mine before here within = refl
+    counted [] [] (suc n) others mine before here within = absurd (omega (arith, within))
+    counted [] (y ∷ own) (suc n) others mine before here within = absurd (before 0 y (omega arith) mine.0)
+    counted (x ∷ front) own zero others mine before here within = absurd (others.0 (here x refl))
+    counted (x ∷ front) own (suc n) others mine before here within =
+        let rest = counted front own n others.1 mine (λ k d lt. before (suc k) d (omega (arith, lt))) here (omega (arith, within)) in
+        omega (arith, rest)
+
+-- ---- what a batch asks of the replica that replays it
+
+-- by the same log and cut the same items are next
+next_like : (setup : Setup) (logs : Logs) (me : ℕ) (p q : Standing) (items : List LogItem) → p.log ≡ q.log → p.cut ≡ q.cut → AreNext setup logs me p items → AreNext setup logs me q items
+next_like setup logs me p q items log cut next =
+    subst (λ (l : List LogItem). AreNext setup logs me (record q { log = l }) items) log (subst (λ (k : List ℕ). AreNext setup logs me (record q { log = p.log; cut = k }) items) cut (bare items p q next))
+  where
+    bare : (items : List LogItem) (p q : Standing) → AreNext setup logs me p items → AreNext setup logs me (record q { log = p.log; cut = p.cut }) items
+    bare [] p q next = tt
+    bare (x ∷ items) p q next = (record { is = next.0.is; fits = next.0.fits; known = next.0.known; enough = next.0.enough }, bare items (logged me x.body p) q next.1)
+
+-- items that are next are those that their bodies make
+pub next_items : (setup : Setup) (logs : Logs) (me : ℕ) (p : Standing) (items : List LogItem) → AreNext setup logs me p items → items_for me (map (λ (i : LogItem). i.body) items) p ≡ items
+next_items setup logs me p [] next = refl
+next_items setup logs me p (x ∷ items) next =
+    ap (λ (i : LogItem). i ∷ items_for me (map (λ (j : LogItem). j.body) items) (logged me x.body p)) (sym next.0.is) ∙ ap (λ (l : List LogItem). x ∷ l) (next_items setup logs me (logged me x.body p) items next.1)
+
+next_both : (setup : Setup) (logs : Logs) (me : ℕ) (bodies : List Body) (p : Standing) (items : List LogItem) → AreNext setup logs me p (items_for me bodies p) → AreNext setup logs me (logged_all me bodies p) items → AreNext setup logs me p (items_for me bodies p ++ items)
+next_both setup logs me [] p items first then' = then'
+next_both setup logs me (b ∷ bodies) p items first then' = (first.0, next_both setup logs me bodies (logged me b p) items first.1 then')
+
+-- the replica that has applied the front of it
+pub record Applied (setup : Setup) (old learned : Replica) (front own : List LogItem) : Type 0 where
+  pub is : IsReplica setup old.me learned
+  pub next : AreNext setup (known_to learned) learned.me (standing_of 0 [] learned) own
+  pub knows : known_to learned ≡ with_all front (known_to old)
+  pub log : own_log learned ≡ own_log old
+
+-- the batch, cut where its own items begin
+pub record Replays (setup : Setup) (r : Replica) (items front own : List LogItem) : Type 0 where
+  pub items_are : items ≡ front ++ own
+  pub others : AllByRecursion (λ i. i.origin ≢ r.me) front
+  pub mine : AllByRecursion (λ i. i.origin ≡ r.me) own
+  pub few : length own ≤ 24
+  pub can : CanLearn setup.spec r front
+  pub applied : (learned : Replica) → HasLearned setup.spec front r learned → Applied setup r learned front own
+
+act_replays : (setup : Setup) (r : Replica) (inst : Inst) (batch : Batch) → IsReplica setup r.me r → InstFits setup.spec inst → Decides setup inst r (decision.Act batch) → Replays setup r batch.items [] batch.items
+act_replays setup r inst batch own fits decides =
+    let known : Logs = known_to r in
+    let place : r.me < length known = omega (arith, own.store.whole, own.within) in
+    record {
+      items_are = refl;
+      others = tt;
+      mine = subst (AllByRecursion (λ (i : LogItem). i.origin ≡ r.me)) (sym decides.1) (refl, tt);
+      few = omega (arith, ap length decides.1);
+      can = record { from = r.me; store = subst (λ n. IsStore setup.spec n r.store) (sym own.store.whole) own.store; place = place; row = tt; fits = tt };
+      applied = λ learned h.
+          let same : known_to learned ≡ known = h.logs r.me tt place ∙ sym (with_all_of r.me [] known tt place) in
+          let cut : cut_in learned.store ≡ cut_in r.store = h.store.counts ∙ ap (map (λ (l : List LogItem). length l)) same ∙ sym own.store.counts in
+          let stays = stays_same setup r learned own h.kept same cut in
+          record {
+            is = stays.own;
+            next = act_next setup learned inst batch batch.items fits (stays.decides inst (decision.Act batch) decides) refl;
+            knows = same;
+            log = ap (log_at (known_to learned)) stays.me ∙ ap (λ (l : Logs). log_at l r.me) same;
+          };
+    }
+
+row_origin : (from at : ℕ) (items : List LogItem) → AreInRow from at items → AllByRecursion (λ i. i.origin ≡ from) items
+row_origin from at [] row = tt
+row_origin from at (x ∷ items) row = (row.0, row_origin from (at + 1) items row.3)
+
+own_origin : (me : ℕ) (bodies : List Body) (p : Standing) → AllByRecursion (λ i. i.origin ≡ me) (items_for me bodies p)
+own_origin me [] p = tt
+own_origin me (b ∷ bodies) p = (refl, own_origin me bodies (logged me b p))
+
+each_known : (me from at : ℕ) (logs : Logs) (items : List LogItem) → from ≢ me → AreInRow from at items → AllByRecursion (λ x. item_at logs x.origin x.index ≡ Some x) items → AllByRecursion (λ x. IsKnown logs me (body.Accept x.origin x.index)) items
+each_known me from at logs [] other row all = tt
+each_known me from at logs (x ∷ items) other row all = (((λ same. other (sym row.0 ∙ same)), slice_get_within (log_at logs x.origin) x.index x all.0), each_known me from (at + 1) logs items other row.3 all.1)
+
+-- the items that a take logs of its own
+abbrev pub own_of : Setup → Message → Replica → List LogItem → List LogItem
+own_of setup message r front =
+    items_for r.me (accepts_of r.me front) (start_of message r front)
+    ++ items_for r.me (gives_for setup (with_items message.from front (known_to r)) r.me message.from message.wants (before_of setup message r front)) (before_of setup message r front)
+
+take_replays : (setup : Setup) (message : Message) (r : Replica) (items front : List LogItem) → IsReplica setup r.me r → MessageFits setup.spec setup.replicas r.me message → AreAdmitted (cut_in r.store) message.items front → items ≡ front ++ own_of setup message r front
+    → Replays setup r items front (own_of setup message r front)
+take_replays setup message r items front own fits admitted is =
+    let me : ℕ = r.me in
+    let from : ℕ = message.from in
+    let known : Logs = known_to r in
+    let logs : Logs = with_items from front known in
+    let part = part_of setup me message (cut_in r.store) front fits admitted in
+    let start : Standing = start_of message r front in
+    let before : Standing = before_of setup message r front in
+    let bodies : List Body = accepts_of me front in
+    let gives : List Body = gives_for setup logs me from message.wants before in
+    let place : from < length known = omega (arith, fits.sender, own.store.whole) in
+    let counted : slice_index (cut_in r.store) from ≡ length (log_at known from) = cut_counts setup.spec setup.replicas r from own.store in
+    let row : AreInRow from (length (log_at known from)) front = subst (λ n. AreInRow from n front) counted part.row in
+    let origin = row_origin from (length (log_at known from)) front row in
+    let placed = items_placed from (length (log_at known from)) known front row refl place in
+    let first : AreNext setup logs me start (items_for me bodies start) = free_next setup logs me bodies start (accepts_free setup logs me front (each_known me from (length (log_at known from)) logs front fits.other row placed)) in
+    let then' : AreNext setup logs me (logged_all me bodies start) (items_for me gives before) = next_like setup logs me before (logged_all me bodies start) (items_for me gives before) refl refl (gives_next setup logs me from message.wants before fits.wants) in
+    let all : AreNext setup logs me start (own_of setup message r front) = next_both setup logs me bodies start (items_for me gives before) first then' in
+    let short = accepts_few me front in
+    let few = gives_few setup logs me from message.wants before in
+    record {
+      items_are = is;
+      others = each_weaker (λ (i : LogItem). i.origin ≡ from) (λ (i : LogItem). i.origin ≢ me) (λ i h same. fits.other (sym h ∙ same)) front origin;
+      mine = each_append (λ (i : LogItem). i.origin ≡ me) (items_for me bodies start) (items_for me gives before) (own_origin me bodies start) (own_origin me gives before);
+      few = omega (arith, length-append (items_for me bodies start) (items_for me gives before), items_long me bodies start, items_long me gives before, short, part.few, few, fits.few_wants);
+      can = can_learn setup me r message front own fits.sender part;
+      applied = λ learned h.
+          let learns : Learns setup me from front r learned = record { own = own; other = fits.other; kept = h.kept; store = subst (λ n. IsStore setup.spec n learned.store) own.store.whole h.store; logs = h.logs from row place } in
+          let mine : learned.me ≡ me = ap (λ (s : Replica). s.me) h.kept in
+          let log : own_log learned ≡ own_log r =
+          ap (log_at (known_to learned)) mine ∙ ap (λ (l : Logs). log_at l me) learns.logs ∙ get_or-set_other known from me (log_at known from ++ front) [] (λ same. fits.other (sym same)) in
+          let cut : cut_in learned.store ≡ cut_after (cut_in r.store) front = learned_cut setup message me front r learned learns fits.sender part in
+          let there : AreNext setup logs me (standing_of 0 [] learned) (own_of setup message r front) = next_like setup logs me start (standing_of 0 [] learned) (own_of setup message r front) (sym log) (sym cut) all in
+          record {
+            is = learned_replica setup me from front r learned learns;
+            next = subst (λ i. AreNext setup (known_to learned) i (standing_of 0 [] learned) (own_of setup message r front)) (sym mine) (subst (λ (l : Logs). AreNext setup l me (standing_of 0 [] learned) (own_of setup message r front)) (sym learns.logs) there);
+            knows = learns.logs ∙ sym (with_all_of from front known origin place);
+            log = log;
+          };
+    }
+
+-- a batch that it decided on can be replayed
+pub decided_replays : (setup : Setup) (r : Replica) (batch : Batch) → IsReplica setup r.me r → IsDecided setup r batch → (front : List LogItem) × (own : List LogItem) × Replays setup r batch.items front own
+decided_replays setup r batch own (inl act) = ([], batch.items, act_replays setup r act.0 batch own act.1 act.2)
+decided_replays setup r batch own (inr one) =
+    let message : Message = one.0 in
+    let taken : Taken = one.1 in
+    let items : List LogItem = taken.batch.items in
+    let front : List LogItem = take taken.applied items in
+    let halves = decided_parts setup message r taken own one.2 one.3 in
+    (front, own_of setup message r front, subst (λ (b : Batch). Replays setup r b.items front (own_of setup message r front)) one.4 (take_replays setup message r items front own one.2 halves.0 halves.1))
+
+-- ---- what a replica is once it has replayed a batch
+
+logged_keeps : (me : ℕ) (bodies : List Body) (p : Standing) → ((logged_all me bodies p).wants ≡ p.wants) × ((logged_all me bodies p).told ≡ p.told)
+logged_keeps me [] p = (refl, refl)
+logged_keeps me (b ∷ bodies) p = logged_keeps me bodies (logged me b p)
+
+pub has_replayed : (setup : Setup) (items front own : List LogItem) (old learned new : Replica) → Replays setup old items front own → HasLearned setup.spec front old learned → HasLoggedAll setup (map (λ (i : LogItem). i.body) own) learned new → HasReplayed setup items old new
+has_replayed setup items front own old learned new h learns logged =
+    let applied = h.applied learned learns in
+    let me : ℕ = learned.me in
+    let bodies : List Body = map (λ (i : LogItem). i.body) own in
+    let p : Standing = standing_of 0 [] learned in
+    let mine : me ≡ old.me = applied.is.me_is in
+    let new_me : new.me ≡ me = logged.own.me_is in
+    let place : me < length (known_to learned) = omega (arith, applied.is.store.whole, applied.is.within, mine) in
+    let log : own_log new ≡ own_log learned ++ own = ap (λ (q : Standing). q.log) (logged.stands 0 []) ∙ logged_items me bodies p ∙ ap (λ (l : List LogItem). own_log learned ++ l) (next_items setup (known_to learned) me p own applied.next) in
+    let all_mine : AllByRecursion (λ (i : LogItem). i.origin ≡ me) own = subst (λ m. AllByRecursion (λ (i : LogItem). i.origin ≡ m) own) (sym mine) h.mine in
+    let keeps = logged_keeps me bodies p in
+    record {
+      own = subst (λ i. IsReplica setup i new) mine logged.own;
+      knows = logged.knows ∙ ap (λ i. slice_set (known_to learned) i (own_log new)) new_me ∙ ap (slice_set (known_to learned) me) log ∙ sym (with_all_of me own (known_to learned) all_mine place)
+          ∙ ap (with_all own) applied.knows ∙ sym (with_all_append front own (known_to old)) ∙ ap (λ (l : List LogItem). with_all l (known_to old)) (sym h.items_are);
+      wants = ap (λ (q : Standing). q.wants) (logged.stands 0 []) ∙ keeps.0 ∙ ap (λ (r : Replica). r.wants) learns.kept;
+      told = ap (λ (q : Standing). q.told) (logged.stands 0 []) ∙ keeps.1 ∙ ap (λ (r : Replica). r.told) learns.kept;
+      grown = omega (arith, ap length log, length-append (own_log learned) own, ap length applied.log, h.few);
+    }
+
+-- the batch, cut in code where the first own item stands
+pub replays_here : (setup : Setup) (r : Replica) (batch : Batch) (items front own : List LogItem) (n : ℕ) → IsReplica setup r.me r → IsDecided setup r batch → items ≡ batch.items → front ≡ take n items → own ≡ drop n items
+    → All (λ i. i.origin ≢ r.me) (take n items) → ((x : LogItem) → slice_get items n ≡ Some x → x.origin ≡ r.me) → n ≤ length items → Replays setup r batch.items front own
+replays_here setup r batch items front own n is decided same front_is own_is before here within =
+    let halves = decided_replays setup r batch is decided in
+    let f : List LogItem = halves.0 in
+    let o : List LogItem = halves.1 in
+    let h : Replays setup r batch.items f o = halves.2 in
+    let all : items ≡ f ++ o = same ∙ h.items_are in
+    let count : n ≡ length f = split_count r.me f o items n all h.others h.mine before here within in
+    let front_same : f ≡ front = sym (front_is ∙ ap (take n) all ∙ front_of f o n count) in
+    let own_same : o ≡ own = sym (own_is ∙ ap (drop n) all ∙ back_of f o n count) in
+    subst (λ (l : List LogItem). Replays setup r batch.items front l) own_same (subst (λ (l : List LogItem). Replays setup r batch.items l o) front_same h)
+
+-- with room made it decides the same
+pub decided_stays : (setup : Setup) (old new : Replica) (batch : Batch) → StaysSame setup old new → IsDecided setup old batch → IsDecided setup new batch
+decided_stays setup old new batch same (inl act) = inl (act.0, act.1, same.decides act.0 (decision.Act batch) act.2)
+decided_stays setup old new batch same (inr one) = inr (one.0, one.1, subst (λ i. MessageFits setup.spec setup.replicas i one.0) (sym same.me) one.2, same.taken one.0 one.1 one.3, one.4)
+
+pub replayed_stays : (setup : Setup) (items : List LogItem) (old mid new : Replica) → StaysSame setup old mid → HasReplayed setup items mid new → HasReplayed setup items old new
+replayed_stays setup items old mid new same h = record {
+  own = subst (λ i. IsReplica setup i new) same.me h.own;
+  knows = h.knows ∙ ap (with_all items) same.knows;
+  wants = h.wants ∙ same.wants;
+  told = h.told ∙ same.told;
+  grown = omega (arith, h.grown, ap length (ap (log_at (known_to mid)) same.me ∙ ap (λ (l : Logs). log_at l old.me) same.knows));
+}
+
+-- one batch more
+pub all_more : (batches : List Batch) (k : ℕ) (x : Batch) (logs : Logs) → k < length batches → x ≡ get_or batches k x → with_all x.items (with_all (flat_map (λ b. b.items) (take k batches)) logs) ≡ with_all (flat_map (λ b. b.items) (take (k + 1) batches)) logs
+all_more batches k x logs lt is =
+    let f : Batch → List LogItem = λ b. b.items in
+    sym (with_all_append (flat_map f (take k batches)) x.items logs)
+    ∙ ap (λ (l : List LogItem). with_all l logs) (sym (ap (flat_map f) (take_more batches k x lt is) ∙ flat_map-append f (take k batches) (x ∷ []) ∙ ap (λ (l : List LogItem). flat_map f (take k batches) ++ l) (flat_map-cons f x [] ∙ append-nil x.items)))
+
+pub decided_next : (setup : Setup) (r : Replica) (batches : List Batch) (k : ℕ) (x : Batch) → k < length batches → x ≡ get_or batches k x → AreDecided setup r (drop k batches) → AreDecided setup r (x ∷ drop (k + 1) batches)
+decided_next setup r batches k x lt is = subst (AreDecided setup r) (drop_at_item batches k x lt is)

@@ -1,0 +1,34 @@
+use Rattle.std.proofs.Common.{[], List, replicate, ap, ◌∙◌, subst, arith}
+use Rattle.run_model.specs.declared.batch.Batch.{Batch}
+use Rattle.replica_core.specs.Recovered.{with_all}
+use Rattle.replica_core.specs.Replicas.{IsReplica}
+use Rattle.replica_core.proofs.Changes.{own_again}
+use Rattle.replica_core.proofs.Replayed.{all_more, decided_next}
+use Rattle.replica_core.proofs.replica.Replica.recover.Goals as goal
+
+pub replay_ready-requires-clause-own : goal.replay_ready-requires-clause-own
+replay_ready-requires-clause-own c = own_again c.args.setup.now c.args.me c.loop-batch.replica c.loop-batch.invariant.own
+
+pub replay_ready-requires-clause-decided : goal.replay_ready-requires-clause-decided
+replay_ready-requires-clause-decided c = (decided_next c.args.setup.now c.loop-batch.replica c.args.batches.now c.loop-batch.batch-index c.batch-item.result c.loop-batch-test.true c.batch-item.is c.loop-batch.invariant.rest).0
+
+pub replay_ready-requires-clause-room : goal.replay_ready-requires-clause-room
+replay_ready-requires-clause-room c = omega (arith, c.loop-batch.invariant.short, c.loop-batch-test.true, c.requires.few_batches)
+
+pub loop-batch-preserved : goal.loop-batch-preserved
+loop-batch-preserved c =
+    let setup = c.args.setup.now in
+    let batches : List Batch = c.args.batches.now in
+    let k = c.loop-batch.batch-index in
+    let x : Batch = c.batch-item.result in
+    let old = c.loop-batch.replica in
+    let h = c.in_ok-replay_ready.ensures in
+    let rest = decided_next setup old batches k x c.loop-batch-test.true c.batch-item.is c.loop-batch.invariant.rest in
+    record {
+      own = subst (λ i. IsReplica setup i c.replay_ready.new.self) c.loop-batch.invariant.own.me_is h.own;
+      knows = h.knows ∙ ap (with_all x.items) c.loop-batch.invariant.knows ∙ all_more batches k x (replicate setup.replicas []) c.loop-batch-test.true c.batch-item.is;
+      wants = h.wants ∙ c.loop-batch.invariant.wants;
+      told = h.told ∙ c.loop-batch.invariant.told;
+      rest = rest.1 c.replay_ready.new.self h;
+      short = omega (arith, c.loop-batch.invariant.short, h.grown);
+    }

@@ -1,0 +1,77 @@
+use Rattle.std.proofs.Common.{[], List, length, ap, sym, subst, arith}
+use Rattle.std.proofs.lemmas.List.{append-nil}
+use Rattle.spec_model.specs.declared.log.LogItem.{LogItem}
+use Rattle.replica_core.specs.Decisions.{IsReadyFor}
+use Rattle.replica_core.proofs.Changes.{own_again}
+use Rattle.replica_core.proofs.Replayed.{Replays, has_replayed, replays_here}
+use Rattle.replica_core.proofs.replica.Replica.replay.Goals as goal
+
+pub learn-requires-clause-store : goal.learn-requires-clause-store
+learn-requires-clause-store c =
+    let setup = c.args.setup.now in
+    let old = c.args.self.now in
+    let front : List LogItem = c.split_at.result.0.now in
+    let own : List LogItem = c.split_at.result.1.now in
+    let reps : Replays setup old c.args.batch.now.items front own =
+    replays_here setup old c.args.batch.now c.as_slice-items.result.now front own c.others.result c.requires.own c.requires.decided c.as_slice-items.ensures.value c.split_at.ensures.front c.split_at.ensures.back c.others.ensures.others c.others.ensures.own c.others.ensures.within in
+    reps.can
+
+pub learn-requires-clause-ready : goal.learn-requires-clause-ready
+learn-requires-clause-ready c =
+    let setup = c.args.setup.now in
+    let old = c.args.self.now in
+    let front : List LogItem = c.split_at.result.0.now in
+    let own : List LogItem = c.split_at.result.1.now in
+    let reps : Replays setup old c.args.batch.now.items front own =
+    replays_here setup old c.args.batch.now c.as_slice-items.result.now front own c.others.result c.requires.own c.requires.decided c.as_slice-items.ensures.value c.split_at.ensures.front c.split_at.ensures.back c.others.ensures.others c.others.ensures.own c.others.ensures.within in
+    (own, subst (IsReadyFor old) reps.items_are c.requires.ready)
+
+pub put_all-requires-clause-own : goal.put_all-requires-clause-own
+put_all-requires-clause-own c =
+    let setup = c.args.setup.now in
+    let old = c.args.self.now in
+    let front : List LogItem = c.split_at.result.0.now in
+    let own : List LogItem = c.split_at.result.1.now in
+    let reps : Replays setup old c.args.batch.now.items front own =
+    replays_here setup old c.args.batch.now c.as_slice-items.result.now front own c.others.result c.requires.own c.requires.decided c.as_slice-items.ensures.value c.split_at.ensures.front c.split_at.ensures.back c.others.ensures.others c.others.ensures.own c.others.ensures.within in
+    own_again setup old.me c.learn.new.self (reps.applied c.learn.new.self c.learn.ensures.learned).is
+
+pub put_all-requires-clause-next : goal.put_all-requires-clause-next
+put_all-requires-clause-next c =
+    let setup = c.args.setup.now in
+    let old = c.args.self.now in
+    let front : List LogItem = c.split_at.result.0.now in
+    let own : List LogItem = c.split_at.result.1.now in
+    let reps : Replays setup old c.args.batch.now.items front own =
+    replays_here setup old c.args.batch.now c.as_slice-items.result.now front own c.others.result c.requires.own c.requires.decided c.as_slice-items.ensures.value c.split_at.ensures.front c.split_at.ensures.back c.others.ensures.others c.others.ensures.own c.others.ensures.within in
+    (reps.applied c.learn.new.self c.learn.ensures.learned).next
+
+pub put_all-requires-clause-room : goal.put_all-requires-clause-room
+put_all-requires-clause-room c =
+    let setup = c.args.setup.now in
+    let old = c.args.self.now in
+    let front : List LogItem = c.split_at.result.0.now in
+    let own : List LogItem = c.split_at.result.1.now in
+    let reps : Replays setup old c.args.batch.now.items front own =
+    replays_here setup old c.args.batch.now c.as_slice-items.result.now front own c.others.result c.requires.own c.requires.decided c.as_slice-items.ensures.value c.split_at.ensures.front c.split_at.ensures.back c.others.ensures.others c.others.ensures.own c.others.ensures.within in
+    omega (arith, ap length (reps.applied c.learn.new.self c.learn.ensures.learned).log, reps.few, c.requires.room)
+
+pub put_all-requires-clause-ready : goal.put_all-requires-clause-ready
+put_all-requires-clause-ready c =
+    let setup = c.args.setup.now in
+    let old = c.args.self.now in
+    let front : List LogItem = c.split_at.result.0.now in
+    let own : List LogItem = c.split_at.result.1.now in
+    let reps : Replays setup old c.args.batch.now.items front own =
+    replays_here setup old c.args.batch.now c.as_slice-items.result.now front own c.others.result c.requires.own c.requires.decided c.as_slice-items.ensures.value c.split_at.ensures.front c.split_at.ensures.back c.others.ensures.others c.others.ensures.own c.others.ensures.within in
+    ([], subst (IsReadyFor c.learn.new.self) (sym (append-nil own)) (c.learn.ensures.ready own (subst (IsReadyFor old) reps.items_are c.requires.ready)))
+
+pub returns : goal.returns
+returns c =
+    let setup = c.args.setup.now in
+    let old = c.args.self.now in
+    let front : List LogItem = c.split_at.result.0.now in
+    let own : List LogItem = c.split_at.result.1.now in
+    let reps : Replays setup old c.args.batch.now.items front own =
+    replays_here setup old c.args.batch.now c.as_slice-items.result.now front own c.others.result c.requires.own c.requires.decided c.as_slice-items.ensures.value c.split_at.ensures.front c.split_at.ensures.back c.others.ensures.others c.others.ensures.own c.others.ensures.within in
+    has_replayed setup c.args.batch.now.items front own old c.learn.new.self c.put_all.new.self reps c.learn.ensures.learned c.put_all.ensures.logged

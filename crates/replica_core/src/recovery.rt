@@ -1,0 +1,82 @@
+//! A replica that is made again from what it committed.
+
+ghost use Rattle.std.specs.Prelude.{◌≡◌, ◌≢◌, ◌<◌, ◌≤◌, ◌++◌, All, IfOk, OnOk, length, slice_get, take, List, Some};
+ghost use Rattle.spec_model.specs.declared.log.LogItem.{LogItem as ItemOf};
+ghost use Rattle.spec_model.specs.Fits.{IsWellFormed};
+ghost use Rattle.run_model.specs.declared.batch.Batch.{Batch as BatchOf};
+
+use crate::replica::Replica;
+use ind_base::NoMemory;
+use run_model::Batch;
+use spec_model::{LogItem, Setup};
+use std::alloc::Global;
+
+impl Replica {
+    ghost use Rattle.replica_core.specs.Replicas.{HasRoom, IsReplica};
+    ghost use Rattle.replica_core.specs.Decisions.{IsDecided, IsReadyFor};
+    ghost use Rattle.replica_core.specs.Recovered.{AreCommitted, HasReplayed, IsRecovered};
+
+    /// How many items stand before the first one of its own.
+    fn others(&self, items: &[LogItem]) -> usize
+        ensures others { All (λ item. item.origin ≢ self.now.me) (take result items.now) }
+        ensures own { (item : ItemOf) → slice_get items.now result ≡ Some item → item.origin ≡ self.now.me }
+        ensures within { result ≤ length items.now }
+    {
+        for (at, item) in items.iter().enumerate() {
+            if item.origin == self.me {
+                return at;
+            }
+        }
+        items.len()
+    }
+
+    /// Applies and logs again what it decided on, for which room was made.
+    fn replay(&mut self, setup: &Setup, batch: &Batch)
+        requires well_formed { IsWellFormed setup.now.spec }
+        requires own { IsReplica setup.now self.old.me self.old }
+        requires decided { IsDecided setup.now self.old batch.now }
+        requires room { HasRoom 24 self.old }
+        requires ready { IsReadyFor self.old batch.now.items }
+        ensures { HasReplayed setup.now batch.now.items self.old self.new }
+    {
+        let items = batch.items.as_slice();
+        let (others, own) = items.split_at(self.others(items));
+        self.learn(&setup.spec, others);
+        self.put_all(setup, own);
+    }
+
+    /// Makes room for what it decided on, and applies and logs it again.
+    fn replay_ready(&mut self, setup: &Setup, batch: &Batch) -> Result<(), NoMemory>
+        requires well_formed { IsWellFormed setup.now.spec }
+        requires own { IsReplica setup.now self.old.me self.old }
+        requires decided { IsDecided setup.now self.old batch.now }
+        requires room { HasRoom 24 self.old }
+        ensures { OnOk result (HasReplayed setup.now batch.now.items self.old self.new) }
+    {
+        self.ready(setup, batch)?;
+        self.replay(setup, batch);
+        Ok(())
+    }
+
+    /// The replica that has committed these batches, one after the other. It wants nothing, and was
+    /// told nothing.
+    pub fn recover(
+        alloc: Global,
+        setup: &Setup,
+        me: u32,
+        batches: &[Batch],
+    ) -> Result<Replica, NoMemory>
+        requires well_formed { IsWellFormed setup.now.spec }
+        requires place { me < setup.now.replicas }
+        requires few { setup.now.replicas ≤ 16 }
+        requires few_batches { length batches.now ≤ 100000 }
+        requires committed { AreCommitted setup.now me batches.now }
+        ensures { IfOk result (IsRecovered setup.now me batches.now) }
+    {
+        let mut replica = Replica::begin(alloc, setup, me)?;
+        for batch in batches {
+            replica.replay_ready(setup, batch)?;
+        }
+        Ok(replica)
+    }
+}
