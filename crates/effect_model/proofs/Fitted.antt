@@ -10,7 +10,7 @@ use Rattle.spec_model.specs.declared.instance.Inst.{Inst}
 use Rattle.spec_model.specs.declared.operation.Op.{Op}
 use Rattle.spec_model.specs.declared.spec.Spec.{Spec}
 use Rattle.spec_model.specs.Fits.{ArgFits, InstFits}
-use Rattle.spec_model.specs.Truths.{size_of, op_at, no_span, no_op}
+use Rattle.spec_model.specs.Truths.{Within, size_of, op_at, no_span, no_op}
 use Rattle.effect_model.specs.Fitting.{arg_fits, args_fit, arg_at_fits}
 
 -- the next argument, and those behind it
@@ -104,3 +104,12 @@ inst_says spec inst op params test at params_are test_is =
       },
       λ fits. test_is ∙ args_complete spec params inst.args (subst (λ (ps : List Var). AllZip (ArgFits spec) ps inst.args) (sym declared) fits.args_fit),
     )
+
+-- ---- elements of sorts
+
+-- where a sort is left, and no element, they are no elements of these sorts
+pub short_elements : (size : ℕ → ℕ) (args sorts : List ℕ) (i : ℕ) → i < length sorts → length args < 1 → Within size (drop i sorts) args → ⊥
+short_elements size (x ∷ args) sorts i lt none within = absurd (omega (arith, none))
+short_elements size [] [] i lt none within = absurd (omega (arith, lt))
+short_elements size [] (s ∷ sorts) zero lt none within = within
+short_elements size [] (s ∷ sorts) (suc i) lt none within = short_elements size [] sorts i (omega (arith, lt)) none within

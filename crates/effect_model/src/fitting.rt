@@ -2,10 +2,13 @@
 
 ghost use Rattle.std.specs.Prelude.{◌≡◌, ◌↔◌, IsTrue};
 ghost use Rattle.spec_model.specs.Fits.{InstFits};
+ghost use Rattle.spec_model.specs.Truths as truths;
+ghost use Rattle.spec_model.specs.Truths.{Within};
 ghost use Rattle.effect_model.specs.Fitting as fitting;
+ghost use Rattle.effect_model.specs.Places.{CellFits};
 
 use crate::layout::size_of;
-use spec_model::{Inst, Span, Spec, Var};
+use spec_model::{Cell, Inst, Span, Spec, Var};
 
 /// Whether an argument fits its parameter.
 #[tactic(auto, unfolding(crate::specs::Fitting::arg_fits))]
@@ -44,6 +47,33 @@ pub fn inst_fits(spec: &Spec, inst: &Inst) -> bool
 {
     match spec.ops.get(inst.op as usize) {
         Some(op) => args_fit(spec, op.params.as_slice(), inst),
+        None => false,
+    }
+}
+
+/// Whether these are elements of these sorts.
+fn are_elements(spec: &Spec, sorts: &[u32], args: &[u32]) -> bool
+    ensures { IsTrue result ↔ Within (truths.size_of spec.now) sorts.now args.now }
+{
+    let mut left = args;
+    for sort in sorts {
+        let [arg, rest @ ..] = left else {
+            return false;
+        };
+        if *arg >= size_of(spec, *sort) {
+            return false;
+        }
+        left = rest;
+    }
+    left.is_empty()
+}
+
+/// Whether a cell is one of the universe: a declared number at elements of its sorts.
+pub fn cell_fits(spec: &Spec, cell: &Cell) -> bool
+    ensures { IsTrue result ↔ CellFits spec.now cell.now }
+{
+    match spec.nums.get(cell.num as usize) {
+        Some(num) => are_elements(spec, num.sorts.as_slice(), cell.args.as_slice()),
         None => false,
     }
 }

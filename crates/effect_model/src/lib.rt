@@ -24,7 +24,7 @@ pub use breaking::breaks;
 pub use change::{AtomChange, CellChange, Change};
 pub use effects::effect;
 pub use escrow::escrow_needs;
-pub use fitting::inst_fits;
+pub use fitting::{cell_fits, inst_fits};
 pub use keys::key_of;
 pub use laws::{changes_are_small, universe_is_all};
 pub use map::Places;

@@ -1,11 +1,12 @@
 -- What was decided is done once its batch is committed.
 use Rattle.std.proofs.Common.{◌≡◌, inl, inr, ℕ, zero, suc, ◌+◌, ◌<◌, ◌≤◌, ◌^◌, List, [], ◌∷◌, ◌++◌, length, map, take, drop, refl, sym, ap, subst, ◌∙◌, arith, length-append, length-take}
-use Rattle.std.specs.Prelude.{Some, None, slice_index}
+use Rattle.std.specs.Prelude.{Some, None, slice_index, sum_by}
 use Rattle.std.specs.List.{AllByRecursion}
 use Rattle.std.proofs.lemmas.List.{append_assoc, append_cancel_left, take-append-drop}
 use Rattle.std.proofs.lemmas.Option.{slice_get_within}
 use Rattle.spec_model.specs.declared.plan.Setup.{Setup}
 use Rattle.spec_model.specs.declared.instance.Inst.{Inst}
+use Rattle.spec_model.specs.declared.instance.Cell.{Cell}
 use Rattle.spec_model.specs.declared.right.Right.TheVariants as right
 use Rattle.spec_model.specs.declared.log.Body.{Body}
 use Rattle.spec_model.specs.declared.log.Body.TheVariants as body
@@ -18,10 +19,10 @@ use Rattle.run_model.specs.declared.step.Outcome.{Outcome}
 use Rattle.run_model.specs.declared.step.Outcome.TheVariants as outcomes
 use Rattle.run_model.specs.Logs.{Logs, item_at, log_at}
 use Rattle.run_model.specs.Worlds.{Sending, Standing, logged}
-use Rattle.run_model.specs.Steps.{AreAdmitted, Requests, Takes, accepts_of, answered, cut_after, dropped, received}
+use Rattle.run_model.specs.Steps.{AreAdmitted, Requests, Takes, accepts_of, answered, cut_after, dropped, received, unseen}
 use Rattle.run_model.specs.Fitting.{AreInRow, ItemFits, MessageFits}
 use Rattle.run_model.proofs.Escrow.{spends_held}
-use Rattle.run_model.specs.Rights.{first_lacking, held_of}
+use Rattle.run_model.specs.Rights.{first_lacking, held_count, held_of}
 use Rattle.run_model.specs.Wants.{still_wanted}
 use Rattle.run_model.proofs.Lists.{each_append, each_weaker}
 use Rattle.causal_store.specs.Stores.{cut_in, logs_in}
@@ -29,6 +30,8 @@ use Rattle.causal_store.specs.declared.store.Store.{Store}
 use Rattle.replica_core.specs.Tables.{AreHeld}
 use Rattle.replica_core.specs.Replicas.{AreCovered, HasAnswered, HasLearned, HasLoggedAll, HasTaken, IsKnown, IsReplica, KnowsOwn, holds_of, known_to, own_log, standing_of, with_items}
 use Rattle.replica_core.specs.Decisions.{AreNext, Decides, IsDecided, IsTaken, Splits, StaysSame}
+use Rattle.replica_core.specs.Drafts.{gives_to}
+use Rattle.replica_core.specs.Heeded.{held_after}
 use Rattle.replica_core.specs.declared.decision.Decision.{Decision}
 use Rattle.replica_core.specs.declared.decision.Decision.TheVariants as decision
 use Rattle.replica_core.specs.declared.decision.Taken.{Taken}
@@ -36,6 +39,8 @@ use Rattle.replica_core.specs.declared.replica.Replica.{Replica}
 use Rattle.replica_core.proofs.Finished.{Drops, has_taken, left_answers, left_stands, outs_of}
 use Rattle.replica_core.proofs.Needed.{answered_done}
 use Rattle.replica_core.proofs.Next.{accepts_free, answered_gives, bodies_back, free_next, gives_few, gives_for, gives_next, items_for, items_long, logged_items}
+use Rattle.replica_core.proofs.Looking.{heeds_like}
+use Rattle.replica_core.proofs.Silent.{heeded_or_nothing}
 use Rattle.replica_core.proofs.Received.{Admits, HasReceived, Learns, accepts_few, cut_counts, items_placed, has_received, learned_stands, part_of, told_of}
 
 pub front_of : {X : Type 0} (xs ys : List X) (n : ℕ) → n ≡ length xs → take n (xs ++ ys) ≡ xs
@@ -253,6 +258,7 @@ same_store setup old s own logs cut =
       told = refl;
       room = λ n h. subst (λ (l : Logs). length (log_at l me) + n < 2 ^ 32) back h;
       decides = λ inst d h. same_decision inst d h;
+      heeds = λ message heeded h. heeds_like setup old (record old { store = s }) message heeded (λ items cell. held_like items cell) refl h;
       taken = λ message taken h. record {
         applied = h.applied;
         own = h.own;
@@ -279,6 +285,11 @@ same_store setup old s own logs cut =
       };
     }
   where
+    held_like : (items : List LogItem) (cell : Cell) → held_after setup old items cell ≡ held_after setup (record old { store = s }) items cell
+    held_like items cell =
+        ap (λ (l : Logs). held_count setup l old.me (log_at l old.me) (right.Low cell) + sum_by (λ (i : LogItem). gives_to old.me (right.Low cell) i.body) (unseen (cut_in old.store) items)) (sym logs)
+        ∙ ap (λ (k : List ℕ). held_count setup (logs_in s) old.me (log_at (logs_in s) old.me) (right.Low cell) + sum_by (λ (i : LogItem). gives_to old.me (right.Low cell) i.body) (unseen k items)) (sym cut)
+
     same_decision : (inst : Inst) (d : Decision) → Decides setup inst old d → Decides setup inst (record old { store = s }) d
     same_decision inst (decision.Breaks broken) h = h
     same_decision inst (decision.Short lacking) h = (subst (λ (l : Logs). first_lacking (λ need. held_of setup l old.me (log_at l old.me) need) (needs setup inst) ≡ Some lacking) (sym logs) h.0, h.1)
@@ -294,14 +305,8 @@ stays_same setup old new own kept logs cut = subst (StaysSame setup old) (sym ke
 abbrev pub IsOfOne : ℕ → LogItem → Type 0
 IsOfOne replicas i = i.origin < replicas
 
--- all items that it decided on are of replicas
-pub decided_origins : (setup : Setup) (r : Replica) (batch : Batch) → IsReplica setup r.me r → IsDecided setup r batch → AllByRecursion (λ item. item.origin < setup.replicas) batch.items
-decided_origins setup r batch own (inl act) = subst (AllByRecursion (λ (i : LogItem). i.origin < setup.replicas)) (sym act.2.1) (own.within, tt)
-decided_origins setup r batch own (inr take_one) =
-    let message : Message = take_one.0 in
-    let taken : Taken = take_one.1 in
-    let fits = take_one.2 in
-    let decided = take_one.3 in
+taken_origins : (setup : Setup) (r : Replica) (message : Message) (taken : Taken) → IsReplica setup r.me r → MessageFits setup.spec setup.replicas r.me message → IsTaken setup message r taken → AllByRecursion (IsOfOne setup.replicas) taken.batch.items
+taken_origins setup r message taken own fits decided =
     let items : List LogItem = taken.batch.items in
     let left : List LogItem = drop taken.applied items in
     let parts = parts_of setup message r taken (take taken.applied items) (take taken.accepted left) (drop taken.accepted left) (record { own = own; fits = fits; decided = decided; front_is = refl; accepts_are = refl; outs_are = refl }) in
@@ -314,11 +319,19 @@ decided_origins setup r batch own (inr take_one) =
     append_cancel_left before.log (drop taken.accepted left) (items_for r.me gives before) (sym parts.outs_end ∙ ap (λ (p : Standing). p.log) (answered_gives setup logs r.me message.from message.wants before) ∙ logged_items r.me gives before) in
     let own_part = each_append (IsOfOne setup.replicas) (take taken.accepted left) (drop taken.accepted left) (subst (AllByRecursion (IsOfOne setup.replicas)) (sym parts.accepts_are) (all_own (accepts_of r.me front) (start_of message r front))) (subst (AllByRecursion (IsOfOne setup.replicas)) (sym outs_are) (all_own gives before)) in
     let all = each_append (IsOfOne setup.replicas) front left (each_weaker (ItemFits setup.spec setup.replicas) (IsOfOne setup.replicas) (λ i h. h.origin) front part.fits) (subst (AllByRecursion (IsOfOne setup.replicas)) (sym (joined_back taken.accepted left (take taken.accepted left) (drop taken.accepted left) refl refl)) own_part) in
-    subst (λ (b : Batch). AllByRecursion (IsOfOne setup.replicas) b.items) take_one.4 (subst (AllByRecursion (IsOfOne setup.replicas)) (sym (joined_back taken.applied items front left refl refl)) all)
+    subst (AllByRecursion (IsOfOne setup.replicas)) (sym (joined_back taken.applied items front left refl refl)) all
   where
     all_own : (bodies : List Body) (p : Standing) → AllByRecursion (IsOfOne setup.replicas) (items_for r.me bodies p)
     all_own [] p = tt
     all_own (b ∷ bodies) p = (own.within, all_own bodies (logged r.me b p))
+
+-- all items that it decided on are of replicas
+pub decided_origins : (setup : Setup) (r : Replica) (batch : Batch) → IsReplica setup r.me r → IsDecided setup r batch → AllByRecursion (λ item. item.origin < setup.replicas) batch.items
+decided_origins setup r batch own (inl act) = subst (AllByRecursion (λ (i : LogItem). i.origin < setup.replicas)) (sym act.2.1) (own.within, tt)
+decided_origins setup r batch own (inr (message, taken, takes, is)) = subst (λ (b : Batch). AllByRecursion (IsOfOne setup.replicas) b.items) is (elim (heeded_or_nothing setup r message taken takes) [
+  | inl (heeded, fits, decided) ↦ taken_origins setup r heeded taken own fits decided
+  | inr none ↦ subst (AllByRecursion (IsOfOne setup.replicas)) (sym none) tt
+])
 
 -- a batch of a take: the items that were admitted, and then those of its own
 pub decided_parts : (setup : Setup) (message : Message) (r : Replica) (taken : Taken) → IsReplica setup r.me r → MessageFits setup.spec setup.replicas r.me message → IsTaken setup message r taken → let front : List LogItem = take taken.applied taken.batch.items in let logs : Logs = with_items message.from front (known_to r) in let before : Standing = before_of setup message r front in

@@ -65,7 +65,7 @@ num_first_small spec (n ∷ nums) zero all = distance_small n.init all.0.init n.
 num_first_small spec (n ∷ nums) (suc k) all = num_first_small spec nums k all.1
 
 -- how many rights there are at the start
-first_small : (spec : Spec) (cell : Cell) → IsWellFormed spec → first_count spec (right.Low cell) ≤ 1000000000000
+pub first_small : (spec : Spec) (cell : Cell) → IsWellFormed spec → first_count spec (right.Low cell) ≤ 1000000000000
 first_small spec cell well = num_first_small spec spec.nums cell.num well.nums
 
 -- ---- what is created
@@ -85,7 +85,7 @@ creates_small spec cell (body.Out to given piece) well = omega arith
 creates_small spec cell (body.Accept from at) well = omega arith
 
 -- by all items
-all_created : (spec : Spec) (cell : Cell) (items : List LogItem) → IsWellFormed spec → sum_by (λ item. body_creates spec (right.Low cell) item.body) items ≤ 16000000000 * length items
+pub all_created : (spec : Spec) (cell : Cell) (items : List LogItem) → IsWellFormed spec → sum_by (λ item. body_creates spec (right.Low cell) item.body) items ≤ 16000000000 * length items
 all_created spec cell [] well = omega arith
 all_created spec cell (item ∷ items) well =
     let one = creates_small spec cell item.body well in
@@ -93,7 +93,7 @@ all_created spec cell (item ∷ items) well =
     omega (arith, one, rest, sum_by-cons (λ (i : LogItem). body_creates spec (right.Low cell) i.body) item items)
 
 -- no more items lie in a cut than there are
-few_items : (bound : ℕ) (cut : List ℕ) (logs : Logs) → ((j : ℕ) → length (log_at logs j) ≤ bound) → length (items_in cut logs) ≤ bound * length logs
+pub few_items : (bound : ℕ) (cut : List ℕ) (logs : Logs) → ((j : ℕ) → length (log_at logs j) ≤ bound) → length (items_in cut logs) ≤ bound * length logs
 few_items bound [] logs short = omega arith
 few_items bound (c ∷ cut) [] short = omega arith
 few_items bound (c ∷ cut) (log ∷ logs) short =
@@ -105,7 +105,7 @@ few_items bound (c ∷ cut) (log ∷ logs) short =
 -- ---- what is held
 
 -- a term of a sum over the replicas is at most the sum
-term_small : (f : ℕ → ℕ) (n me : ℕ) → me < n → f me ≤ sum_by f (below n)
+pub term_small : (f : ℕ → ℕ) (n me : ℕ) → me < n → f me ≤ sum_by f (below n)
 term_small f zero me lt = absurd (omega (arith, lt))
 term_small f (suc n) me lt =
     elim (cases_eq me n) [
@@ -114,7 +114,7 @@ term_small f (suc n) me lt =
     ]
 
 -- in a balance no more is held than there was and was created
-held_at_most : (one held flight spent first created : ℕ) → held + flight + spent ≡ first + created → one ≤ held → one ≤ first + created
+pub held_at_most : (one held flight spent first created : ℕ) → held + flight + spent ≡ first + created → one ≤ held → one ≤ first + created
 held_at_most one held flight spent first created balance le = omega arith
 
 -- what a replica holds at the end of a run

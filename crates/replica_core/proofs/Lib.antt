@@ -14,5 +14,8 @@ pub mod Finished
 pub mod Committed
 pub mod Replayed
 pub mod Showing
+pub mod Silent
 pub mod Sending
 pub mod Holding
+pub mod Looking
+pub mod Bearing

@@ -271,6 +271,12 @@ each_of_all P (x ∷ xs) (suc i) lt all = each_of_all P xs i (omega (arith, lt))
 abbrev pub told_of : Message → Replica → List (List ℕ)
 told_of message r = slice_set r.told message.from (joined (slice_index_or r.told message.from []) message.cut)
 
+-- that may be said by its sender and cut
+pub heard_so : (message : Message) (old new : Replica) (from : ℕ) (cut : List ℕ) → message.from ≡ from → message.cut ≡ cut → new ≡ record old { told = slice_set old.told from (joined (slice_index_or old.told from []) cut) } → new ≡ record old { told = told_of message old }
+heard_so message old new from cut from_is cut_is heard =
+    heard ∙ ap (λ i. let r : Replica = record old { told = slice_set old.told i (joined (slice_index_or old.told i []) cut) } in r) (sym from_is)
+    ∙ ap (λ (k : List ℕ). let r : Replica = record old { told = slice_set old.told message.from (joined (slice_index_or old.told message.from []) k) } in r) (sym cut_is)
+
 -- a message was heard, and these of its items are applied
 pub record Admits (setup : Setup) (me : ℕ) (message : Message) (old mid : Replica) (items : List LogItem) : Type 0 where
   pub own : IsReplica setup me old

@@ -21,7 +21,6 @@ use Rattle.run_model.specs.Fitting.{AreInRow, MessageFits}
 use Rattle.run_model.proofs.Lists.{each_append, each_weaker}
 use Rattle.causal_store.specs.Stores.{IsStore, cut_in}
 use Rattle.replica_core.specs.declared.decision.Decision.TheVariants as decision
-use Rattle.replica_core.specs.declared.decision.Taken.{Taken}
 use Rattle.replica_core.specs.declared.replica.Replica.{Replica}
 use Rattle.replica_core.specs.Decisions.{AreNext, Decides, IsDecided, StaysSame}
 use Rattle.replica_core.specs.Recovered.{AreDecided, HasReplayed, with_all}
@@ -30,6 +29,7 @@ use Rattle.replica_core.proofs.Changes.{set_again}
 use Rattle.replica_core.proofs.Committed.{act_next, back_of, before_of, decided_parts, front_of, start_of, stays_same}
 use Rattle.replica_core.proofs.Lists.{drop_at_item, take_more}
 use Rattle.replica_core.proofs.Next.{accepts_free, free_next, gives_few, gives_for, gives_next, items_for, items_long, logged_items}
+use Rattle.replica_core.proofs.Silent.{heeded_or_nothing}
 use Rattle.replica_core.proofs.Received.{Learns, accepts_few, can_learn, cut_counts, items_placed, learned_cut, learned_replica, part_of}
 
 -- ---- logs with more items
@@ -189,16 +189,40 @@ take_replays setup message r items front own fits admitted is =
           };
     }
 
+-- nor does an empty batch change anything
+nothing_replays : (setup : Setup) (r : Replica) (items : List LogItem) → IsReplica setup r.me r → items ≡ [] → Replays setup r items [] []
+nothing_replays setup r items own none =
+    let known : Logs = known_to r in
+    let place : r.me < length known = omega (arith, own.store.whole, own.within) in
+    record {
+      items_are = none;
+      others = tt;
+      mine = tt;
+      few = omega arith;
+      can = record { from = r.me; store = subst (λ n. IsStore setup.spec n r.store) (sym own.store.whole) own.store; place = place; row = tt; fits = tt };
+      applied = λ learned h.
+          let same : known_to learned ≡ known = h.logs r.me tt place ∙ sym (with_all_of r.me [] known tt place) in
+          let cut : cut_in learned.store ≡ cut_in r.store = h.store.counts ∙ ap (map (λ (l : List LogItem). length l)) same ∙ sym own.store.counts in
+          let stays = stays_same setup r learned own h.kept same cut in
+          record {
+            is = stays.own;
+            next = tt;
+            knows = same;
+            log = ap (log_at (known_to learned)) stays.me ∙ ap (λ (l : Logs). log_at l r.me) same;
+          };
+    }
+
 -- a batch that it decided on can be replayed
 pub decided_replays : (setup : Setup) (r : Replica) (batch : Batch) → IsReplica setup r.me r → IsDecided setup r batch → (front : List LogItem) × (own : List LogItem) × Replays setup r batch.items front own
 decided_replays setup r batch own (inl act) = ([], batch.items, act_replays setup r act.0 batch own act.1 act.2)
-decided_replays setup r batch own (inr one) =
-    let message : Message = one.0 in
-    let taken : Taken = one.1 in
-    let items : List LogItem = taken.batch.items in
-    let front : List LogItem = take taken.applied items in
-    let halves = decided_parts setup message r taken own one.2 one.3 in
-    (front, own_of setup message r front, subst (λ (b : Batch). Replays setup r b.items front (own_of setup message r front)) one.4 (take_replays setup message r items front own one.2 halves.0 halves.1))
+decided_replays setup r batch own (inr (message, taken, takes, is)) = elim (heeded_or_nothing setup r message taken takes) [
+  | inl (heeded, fits, decided) ↦
+      let items : List LogItem = taken.batch.items in
+      let front : List LogItem = take taken.applied items in
+      let halves = decided_parts setup heeded r taken own fits decided in
+      (front, own_of setup heeded r front, subst (λ (b : Batch). Replays setup r b.items front (own_of setup heeded r front)) is (take_replays setup heeded r items front own fits halves.0 halves.1))
+  | inr none ↦ ([], [], nothing_replays setup r batch.items own (ap (λ (b : Batch). b.items) (sym is) ∙ none))
+]
 
 -- ---- what a replica is once it has replayed a batch
 
@@ -244,7 +268,7 @@ replays_here setup r batch items front own n is decided same front_is own_is bef
 -- with room made it decides the same
 pub decided_stays : (setup : Setup) (old new : Replica) (batch : Batch) → StaysSame setup old new → IsDecided setup old batch → IsDecided setup new batch
 decided_stays setup old new batch same (inl act) = inl (act.0, act.1, same.decides act.0 (decision.Act batch) act.2)
-decided_stays setup old new batch same (inr one) = inr (one.0, one.1, subst (λ i. MessageFits setup.spec setup.replicas i one.0) (sym same.me) one.2, same.taken one.0 one.1 one.3, one.4)
+decided_stays setup old new batch same (inr (message, taken, takes, is)) = inr (message, taken, record { heeded = takes.heeded; heeds = same.heeds message takes.heeded takes.heeds; takes = same.taken takes.heeded taken takes.takes }, is)
 
 pub replayed_stays : (setup : Setup) (items : List LogItem) (old mid new : Replica) → StaysSame setup old mid → HasReplayed setup items mid new → HasReplayed setup items old new
 replayed_stays setup items old mid new same h = record {

@@ -1,5 +1,5 @@
 -- A message that is sent fits the replica that it is sent to.
-use Rattle.std.proofs.Common.{◌≡◌, ◌≢◌, ℕ, List, [], ◌∷◌, length, map, take, drop, sym, ap, subst, ◌∙◌, arith, length-take}
+use Rattle.std.proofs.Common.{refl, ◌≡◌, ◌≢◌, ℕ, List, [], ◌∷◌, length, map, take, drop, sym, ap, subst, ◌∙◌, arith, length-take}
 use Rattle.std.specs.Prelude.{slice_index, slice_index_or}
 use Rattle.std.specs.List.{AllByRecursion}
 use Rattle.std.proofs.lemmas.List.{length-map}
@@ -41,6 +41,7 @@ sent_fits setup r to number stamp cut items wants own other cut_is items_are wan
     record {
       sender = own.within;
       other = λ same. other (sym same);
+      receiver = refl;
       cut = ap length (cut_is ∙ own.store.counts) ∙ length-map (known_to r) (λ (l : List LogItem). length l) ∙ own.store.whole;
       items = subst (AllByRecursion (ItemFits setup.spec setup.replicas)) (sym items_are) (each_take (ItemFits setup.spec setup.replicas) 16 (drop seen log) (each_dropped (ItemFits setup.spec setup.replicas) seen log fit));
       first = seen;

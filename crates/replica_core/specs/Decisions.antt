@@ -20,6 +20,7 @@ use Rattle.run_model.specs.Steps.{Takes}
 use Rattle.run_model.specs.Fitting.{BodyFits, MessageFits}
 use Rattle.causal_store.specs.Stores.{HasRoomFor}
 use Rattle.replica_core.specs.Tables.{NeedFits}
+use Rattle.replica_core.specs.Heeded.{Heeds}
 use Rattle.replica_core.specs.Replicas.{HasAnswered, HasRoom, HasTaken, IsKnown, IsReplica, holds_of, item_of, known_to, own_log, standing_of, with_items}
 use Rattle.replica_core.specs.declared.decision.Decision.{Decision}
 use Rattle.replica_core.specs.declared.decision.Decision.TheVariants as decision
@@ -40,6 +41,12 @@ pub record IsTaken (setup : Setup) (message : Message) (r : Replica) (taken : Ta
   pub takes : Takes setup (with_items message.from applied (known_to r)) r.me message applied (standing_of 0 [] r) (outcomes.Took message.number taken.applied taken.accepted taken.gave) after
   pub longer : after.log ≡ own_log r ++ own
   pub batch : taken.batch.items ≡ applied ++ own
+
+-- what it decides on a message that may be any: what it does on what it heeds of it
+pub record TakesHeeded (setup : Setup) (r : Replica) (message : Message) (taken : Taken) : Type 0 where
+  pub heeded : Message
+  pub heeds : Heeds setup r message heeded
+  pub takes : IsTaken setup heeded r taken
 
 -- the batch of a take, cut into its three parts
 pub record Splits (setup : Setup) (message : Message) (r : Replica) (taken : Taken) (front accepts outs : List LogItem) : Type 0 where
@@ -70,7 +77,7 @@ IsReadyFor r items = HasRoomFor r.store items
 abbrev pub IsDecided : Setup → Replica → Batch → Type 0
 IsDecided setup r batch =
     ((inst : Inst) × InstFits setup.spec inst × Decides setup inst r (decision.Act batch))
-    ⊎ ((message : Message) × (taken : Taken) × MessageFits setup.spec setup.replicas r.me message × IsTaken setup message r taken × (taken.batch ≡ batch))
+    ⊎ ((message : Message) × (taken : Taken) × TakesHeeded setup r message taken × (taken.batch ≡ batch))
 
 -- nothing is known of the one replica that isn't known of the other: it decides the same, and what comes of it is the same
 pub record StaysSame (setup : Setup) (old new : Replica) : Type 0 where
@@ -81,6 +88,7 @@ pub record StaysSame (setup : Setup) (old new : Replica) : Type 0 where
   pub told : new.told ≡ old.told
   pub room : (n : ℕ) → HasRoom n old → HasRoom n new
   pub decides : (inst : Inst) (d : Decision) → Decides setup inst old d → Decides setup inst new d
+  pub heeds : (message heeded : Message) → Heeds setup old message heeded → Heeds setup new message heeded
   pub taken : (message : Message) (taken : Taken) → IsTaken setup message old taken → IsTaken setup message new taken
   pub answered : (inst : Inst) (outcome : Outcome) (last : Replica) → HasAnswered setup inst new outcome last → HasAnswered setup inst old outcome last
   pub took : (message : Message) (outcome : Outcome) (last : Replica) → HasTaken setup message new outcome last → HasTaken setup message old outcome last

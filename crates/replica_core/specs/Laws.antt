@@ -1,5 +1,5 @@
--- Laws of runs that bound what a replica holds.
-use Rattle.std.specs.Prelude.{ℕ, ◌<◌, ◌≤◌, ◌^◌, List, length, Contains}
+-- Laws of runs: what a replica holds, and what it heeds.
+use Rattle.std.specs.Prelude.{◌≡◌, ℕ, ◌<◌, ◌≤◌, ◌^◌, List, length, Some, Contains}
 use Rattle.spec_model.specs.declared.plan.Setup.{Setup}
 use Rattle.spec_model.specs.declared.spec.Spec.{Spec}
 use Rattle.spec_model.specs.declared.instance.Cell.{Cell}
@@ -7,12 +7,19 @@ use Rattle.spec_model.specs.declared.right.Right.TheVariants as right
 use Rattle.spec_model.specs.Bounds.{KeepsBounds}
 use Rattle.spec_model.specs.Fits.{IsWellFormed}
 use Rattle.spec_model.specs.Universe.{cells, first_value}
+use Rattle.run_model.specs.declared.message.Message.{Message}
+use Rattle.run_model.specs.declared.step.Ask.TheVariants as asks
 use Rattle.run_model.specs.declared.step.StepEntry.{StepEntry}
+use Rattle.run_model.specs.Fitting.{MessageFits}
 use Rattle.run_model.specs.Locals.{Local, StandsIn}
 use Rattle.run_model.specs.Logs.{log_at}
 use Rattle.run_model.specs.Rights.{held_count}
 use Rattle.run_model.specs.Runs.{Runs}
-use Rattle.run_model.specs.Worlds.{World, first_world, logs_of}
+use Rattle.run_model.specs.Steps.{Hears, links_of}
+use Rattle.run_model.specs.Worlds.{Sending, World, first_world, logs_of}
+use Rattle.replica_core.specs.Heeded.{IsHeededWhole}
+use Rattle.replica_core.specs.Replicas.{known_to, standing_of}
+use Rattle.replica_core.specs.declared.replica.Replica.{Replica}
 
 -- each cell begins within its bounds
 abbrev pub FirstsKeepBounds : Type 0
@@ -23,3 +30,11 @@ abbrev pub HoldsAreSmall : Type 0
 HoldsAreSmall = (setup : Setup) (entries : List StepEntry) (world : World) (me : ℕ) (l : Local) (cell : Cell)
     → IsWellFormed setup.spec → setup.replicas ≤ 8 → 0 < setup.replicas → Runs setup (first_world setup.replicas) entries world → StandsIn world me l
     → ((j : ℕ) → length (log_at (logs_of world) j) ≤ 4194304) → Contains (cells setup.spec) cell → held_count setup l.known me l.standing.log (right.Low cell) < 2 ^ 64
+
+-- in a run of at most eight replicas that log at most 2 ^ 22 items each, a replica heeds whole what was sent to it
+abbrev pub MessagesAreHeeded : Type 0
+MessagesAreHeeded = (setup : Setup) (entries : List StepEntry) (world : World) (r : Replica) (stamp : ℕ) (sendings : List Sending) (from number : ℕ) (sent : Sending) (message : Message)
+    → IsWellFormed setup.spec → setup.replicas ≤ 8 → 0 < setup.replicas → Runs setup (first_world setup.replicas) entries world
+    → StandsIn world r.me (record { standing = standing_of stamp sendings r; known = known_to r }) → ((j : ℕ) → length (log_at (logs_of world) j) ≤ 4194304)
+    → Hears (links_of world) r.me (asks.Take from (Some number)) (Some sent) → sent.message ≡ Some message → MessageFits setup.spec setup.replicas r.me message
+    → IsHeededWhole setup r message

@@ -2,6 +2,8 @@
 
 ghost use Rattle.std.specs.Prelude.{◌≡◌, ◌+◌, ◌<◌, ◌≤◌, ◌^◌, ◌++◌, ◌∷◌, [], All, IfOk, OnOk, length, Contains};
 ghost use Rattle.spec_model.specs.declared.spec.Spec.{Spec as SpecOf};
+ghost use Rattle.spec_model.specs.declared.plan.Setup.{Setup as SetupOf};
+ghost use Rattle.run_model.specs.declared.message.Message.{Message as MessageOf};
 ghost use Rattle.spec_model.specs.Fits.{IsWellFormed};
 ghost use Rattle.spec_model.specs.Universe.{cells};
 ghost use Rattle.spec_model.specs.declared.right.Right.TheVariants as right;
@@ -15,6 +17,7 @@ ghost use Rattle.replica_core.specs.Tables.{low_need};
 
 use crate::decision::Taken;
 use crate::draft::Draft;
+use crate::fitting::is_addressed;
 use crate::pieces::{all_give, all_give_to};
 use crate::replica::Replica;
 use crate::wanting::gives;
@@ -39,7 +42,8 @@ fn seen_after(cut: Cut, replicas: u32, items: &[LogItem]) -> Cut
 
 impl Replica {
     ghost use Rattle.replica_core.specs.Replicas.{HasRoom, IsReplica, own_log};
-    ghost use Rattle.replica_core.specs.Decisions.{IsTaken};
+    ghost use Rattle.replica_core.specs.Decisions.{IsTaken, TakesHeeded};
+    ghost use Rattle.replica_core.specs.Heeded.{silent};
     ghost use Rattle.replica_core.specs.Drafts.{HasAccepted, HasDrafted, HasDraftedAnswers, IsDraft, drafted_holds, drafted_logs};
 
     /// Drafts one item more of its own.
@@ -224,10 +228,13 @@ impl Replica {
         })
     }
 
-    /// What it takes of a message: the items that it may apply, an Accept for each of them that gives
-    /// to it, and for each want of the sender at most one Out, of what it then still holds. Nothing
-    /// of it is done before it is committed.
-    pub fn take(&self, alloc: Global, setup: &Setup, message: &Message) -> Result<Taken, NoMemory>
+    /// What it takes of a message that it heeds whole.
+    fn take_heeded(
+        &self,
+        alloc: Global,
+        setup: &Setup,
+        message: &Message,
+    ) -> Result<Taken, NoMemory>
         requires well_formed { IsWellFormed setup.now.spec }
         requires own { IsReplica setup.now self.now.me self.now }
         requires fits { MessageFits setup.now.spec setup.now.replicas self.now.me message.now }
@@ -249,5 +256,38 @@ impl Replica {
             accepted,
             gave,
         })
+    }
+
+    /// What it takes of a message that isn't addressed to it.
+    fn take_nothing(&self, alloc: Global) -> Taken
+        ensures { (setup : SetupOf) (message : MessageOf) → IsReplica setup self.now.me self.now → IsTaken setup (silent setup.replicas message) self.now result }
+    {
+        Taken {
+            batch: Batch {
+                items: List::new(alloc),
+            },
+            applied: 0,
+            accepted: 0,
+            gave: 0,
+        }
+    }
+
+    /// What it takes of a message: the items that it may apply, an Accept for each of them that gives
+    /// to it, and for each want of the sender at most one Out, of what it then still holds. Nothing
+    /// of it is done before it is committed.
+    ///
+    /// The message may be any: only what fits is heeded, of at most 16 items and 8 wants, and nothing
+    /// of one that isn't addressed to it. A message of a run is heeded whole.
+    pub fn take(&self, alloc: Global, setup: &Setup, message: &Message) -> Result<Taken, NoMemory>
+        requires well_formed { IsWellFormed setup.now.spec }
+        requires own { IsReplica setup.now self.now.me self.now }
+        requires room { HasRoom 24 self.now }
+        ensures { IfOk result (TakesHeeded setup.now self.now message.now) }
+    {
+        if !is_addressed(setup, self.me, message) {
+            return Ok(self.take_nothing(alloc));
+        }
+        let heeded = self.heeded(alloc, setup, message)?;
+        self.take_heeded(alloc, setup, &heeded)
     }
 }

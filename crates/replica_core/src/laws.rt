@@ -1,6 +1,6 @@
 //! Laws of runs, for callers to cite.
 
-ghost use Rattle.replica_core.specs.Laws.{FirstsKeepBounds, HoldsAreSmall};
+ghost use Rattle.replica_core.specs.Laws.{FirstsKeepBounds, HoldsAreSmall, MessagesAreHeeded};
 
 /// Each cell begins within its bounds.
 pub fn firsts_keep_bounds()
@@ -11,4 +11,10 @@ pub fn firsts_keep_bounds()
 /// replicas that log at most 2^22 items each.
 pub fn holds_are_small()
     ensures { HoldsAreSmall }
+{}
+
+/// A replica heeds whole what was sent to it, in a run of at most eight replicas that log at most
+/// 2^22 items each.
+pub fn messages_are_heeded()
+    ensures { MessagesAreHeeded }
 {}

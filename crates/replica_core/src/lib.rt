@@ -4,6 +4,8 @@
 mod decision;
 mod draft;
 mod drafting;
+mod fitting;
+mod heeding;
 mod laws;
 mod pieces;
 mod recovery;
@@ -16,5 +18,5 @@ mod taking;
 mod wanting;
 
 pub use decision::{Decision, Taken};
-pub use laws::{firsts_keep_bounds, holds_are_small};
+pub use laws::{firsts_keep_bounds, holds_are_small, messages_are_heeded};
 pub use replica::Replica;

@@ -97,7 +97,7 @@ fn out_gives(cell: &Cell, body: &Body) -> u64
 }
 
 /// How many of them it gives to this replica.
-fn gives_to(me: u32, cell: &Cell, body: &Body) -> u64
+pub(crate) fn gives_to(me: u32, cell: &Cell, body: &Body) -> u64
     ensures { result ≡ drafts.gives_to me (low.Low cell.now) body.now }
 {
     match body {

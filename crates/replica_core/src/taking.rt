@@ -8,11 +8,13 @@ ghost use Rattle.spec_model.specs.declared.log.LogItem.{LogItem as ItemOf};
 ghost use Rattle.spec_model.specs.Universe.{cells};
 ghost use Rattle.run_model.specs.declared.step.Outcome.TheVariants as outcomes;
 ghost use Rattle.replica_core.specs.declared.decision.Taken.{Taken as TakenOf};
+ghost use Rattle.run_model.specs.declared.message.Message.{Message as MessageOf};
 ghost use Rattle.replica_core.specs.Tables.{low_need};
 ghost use Rattle.run_model.specs.Wants.{need_of, still_wanted};
 ghost use Rattle.run_model.specs.Worlds.{joined as joined_with};
 
 use crate::decision::Taken;
+use crate::fitting::is_addressed;
 use crate::replica::Replica;
 use ind_base::Cut;
 use run_model::Message;
@@ -32,16 +34,17 @@ fn joined(a: &Cut, b: &Cut) -> Cut
 
 impl Replica {
     ghost use Rattle.replica_core.specs.Replicas.{CanLearn, HasLearned, HasRoom, HasTaken, IsReplica, holds_of};
-    ghost use Rattle.replica_core.specs.Decisions.{IsReadyFor, IsTaken, Splits};
+    ghost use Rattle.replica_core.specs.Decisions.{IsReadyFor, IsTaken, Splits, TakesHeeded};
+    ghost use Rattle.replica_core.specs.Heeded.{Heeds};
 
     /// Keeps the greatest cut that was told.
-    fn hear(&mut self, message: &Message)
-        requires place { message.now.from < length self.old.told }
-        requires told { length (slice_index_or self.old.told message.now.from []) ≡ length message.now.cut }
-        ensures { self.new ≡ record self.old { told = slice_set self.old.told message.now.from (joined_with (slice_index_or self.old.told message.now.from []) message.now.cut) } }
+    fn hear(&mut self, from: u32, cut: &Cut)
+        requires place { from < length self.old.told }
+        requires told { length (slice_index_or self.old.told from []) ≡ length cut.now }
+        ensures { self.new ≡ record self.old { told = slice_set self.old.told from (joined_with (slice_index_or self.old.told from []) cut.now) } }
     {
-        let from = message.from as usize;
-        let cut = joined(&self.told.as_slice()[from], &message.cut);
+        let from = from as usize;
+        let cut = joined(&self.told.as_slice()[from], cut);
         self.told.set(from, cut);
     }
 
@@ -118,34 +121,33 @@ impl Replica {
     fn do_all(
         &mut self,
         setup: &Setup,
-        message: &Message,
+        from: u32,
+        cut: &Cut,
         applied: &[LogItem],
         accepts: &[LogItem],
         outs: &[LogItem],
     )
         requires well_formed { IsWellFormed setup.now.spec }
-        requires splits { (taken : TakenOf) × Splits setup.now message.now self.old taken applied.now accepts.now outs.now }
+        requires splits { (m : MessageOf) × (taken : TakenOf) × (m.from ≡ from) × (m.cut ≡ cut.now) × Splits setup.now m self.old taken applied.now accepts.now outs.now }
         requires room { HasRoom 24 self.old }
         requires ready { IsReadyFor self.old (applied.now ++ (accepts.now ++ outs.now)) }
-        ensures { (taken : TakenOf) → Splits setup.now message.now self.old taken applied.now accepts.now outs.now → HasTaken setup.now message.now self.old (outcomes.Took message.now.number taken.applied taken.accepted taken.gave) self.new }
+        ensures { (m : MessageOf) (taken : TakenOf) → m.from ≡ from → m.cut ≡ cut.now → Splits setup.now m self.old taken applied.now accepts.now outs.now → HasTaken setup.now m self.old (outcomes.Took m.number taken.applied taken.accepted taken.gave) self.new }
     {
-        self.hear(message);
+        self.hear(from, cut);
         self.learn(&setup.spec, applied);
         self.put_all(setup, accepts);
         self.drop_met(setup);
         self.put_all(setup, outs);
     }
 
-    /// Does what it decided on a message, for which room was made: hears what the sender has seen,
-    /// applies and logs the items of the batch, and drops the wants that are met once it has accepted.
-    pub fn commit_take(&mut self, setup: &Setup, message: &Message, taken: &Taken)
+    /// Does what it decided on what it heeds of a message that is addressed to it.
+    fn commit_heeded(&mut self, setup: &Setup, from: u32, cut: &Cut, taken: &Taken)
         requires well_formed { IsWellFormed setup.now.spec }
         requires own { IsReplica setup.now self.old.me self.old }
-        requires fits { MessageFits setup.now.spec setup.now.replicas self.old.me message.now }
-        requires decided { IsTaken setup.now message.now self.old taken.now }
+        requires decided { (m : MessageOf) × (m.from ≡ from) × (m.cut ≡ cut.now) × MessageFits setup.now.spec setup.now.replicas self.old.me m × IsTaken setup.now m self.old taken.now }
         requires room { HasRoom 24 self.old }
         requires ready { IsReadyFor self.old taken.now.batch.items }
-        ensures { HasTaken setup.now message.now self.old (outcomes.Took message.now.number taken.now.applied taken.now.accepted taken.now.gave) self.new }
+        ensures { (m : MessageOf) → m.from ≡ from → m.cut ≡ cut.now → MessageFits setup.now.spec setup.now.replicas self.old.me m → IsTaken setup.now m self.old taken.now → HasTaken setup.now m self.old (outcomes.Took m.number taken.now.applied taken.now.accepted taken.now.gave) self.new }
     {
         let (applied, own) = taken
             .batch
@@ -153,6 +155,24 @@ impl Replica {
             .as_slice()
             .split_at(taken.applied as usize);
         let (accepts, outs) = own.split_at(taken.accepted as usize);
-        self.do_all(setup, message, applied, accepts, outs);
+        self.do_all(setup, from, cut, applied, accepts, outs);
+    }
+
+    /// Does what it decided on a message, for which room was made: hears what the sender has seen,
+    /// applies and logs the items of the batch, and drops the wants that are met once it has
+    /// accepted. Of a message that isn't addressed to it nothing is heard.
+    pub fn commit_take(&mut self, setup: &Setup, message: &Message, taken: &Taken)
+        requires well_formed { IsWellFormed setup.now.spec }
+        requires own { IsReplica setup.now self.old.me self.old }
+        requires decided { TakesHeeded setup.now self.old message.now taken.now }
+        requires room { HasRoom 24 self.old }
+        requires ready { IsReadyFor self.old taken.now.batch.items }
+        ensures { (heeded : MessageOf) → Heeds setup.now self.old message.now heeded → IsTaken setup.now heeded self.old taken.now → HasTaken setup.now heeded self.old (outcomes.Took message.now.number taken.now.applied taken.now.accepted taken.now.gave) self.new }
+    {
+        if is_addressed(setup, self.me, message) {
+            self.commit_heeded(setup, message.from, &message.cut, taken);
+        } else {
+            self.drop_met(setup);
+        }
     }
 }

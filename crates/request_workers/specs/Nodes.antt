@@ -16,6 +16,7 @@ use Rattle.run_model.specs.Finals.{final_of}
 use Rattle.run_model.specs.Fitting.{MessageFits}
 use Rattle.run_model.specs.Locals.{Local, LocalSteps, StandsIn, first_local}
 use Rattle.scenario_text.specs.Numbered.{sends_of}
+use Rattle.replica_core.specs.Heeded.{IsHeededWhole}
 use Rattle.replica_core.specs.Replicas.{HasRoom, IsReplica, known_to, own_log, standing_of}
 use Rattle.request_workers.specs.declared.node.Node.{Node}
 
@@ -102,6 +103,10 @@ pub record AreRunning (setup : Setup) (done : List Order) (nodes : List Node) (l
 -- the node of replica me may take a step
 abbrev pub CanStepAt : Setup → ℕ → List Node → Type 0
 CanStepAt setup me nodes = (node : Node) → slice_get nodes me ≡ Some node → (node.replica.me ≡ me) × CanStep setup node
+
+-- the node of replica me heeds the message whole
+abbrev pub HeedsWholeAt : Setup → ℕ → Message → List Node → Type 0
+HeedsWholeAt setup me message nodes = (node : Node) → slice_get nodes me ≡ Some node → IsHeededWhole setup node.replica message
 
 -- one of the nodes takes a step
 pub record StepsAt (setup : Setup) (me : ℕ) (ask : Ask) (heard : Option Sending) (sent : List Sending) (old new : List Node) : Type 0 where

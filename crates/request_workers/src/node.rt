@@ -7,6 +7,7 @@ ghost use Rattle.spec_model.specs.declared.instance.Cell.{Cell as CellOf};
 ghost use Rattle.spec_model.specs.declared.right.Right.TheVariants as right;
 ghost use Rattle.run_model.specs.declared.step.Ask.TheVariants as asks;
 ghost use Rattle.run_model.specs.Fitting.{MessageFits};
+ghost use Rattle.replica_core.specs.Heeded.{IsHeededWhole};
 ghost use Rattle.run_model.specs.Rights.{held_count};
 ghost use Rattle.causal_store.specs.Stores.{IsShort};
 ghost use Rattle.spec_model.specs.declared.instance.Inst.{Inst as InstOf};
@@ -67,7 +68,7 @@ fn answer(
     }
 }
 
-/// Takes a message: what the replica decides is done.
+/// Takes a message, which the replica heeds whole: what it decides is done.
 fn receive(
     alloc: Global,
     setup: &Setup,
@@ -76,7 +77,7 @@ fn receive(
 ) -> Result<Outcome, NoMemory>
     requires well_formed { IsWellFormed setup.now.spec }
     requires own { IsReplica setup.now replica.old.me replica.old }
-    requires fits { MessageFits setup.now.spec setup.now.replicas replica.old.me message.now }
+    requires whole { IsHeededWhole setup.now replica.old message.now }
     requires room { HasRoom 24 replica.old }
     ensures { IfOk result (λ outcome. HasTaken setup.now message.now replica.old outcome replica.new) }
 {
@@ -173,7 +174,7 @@ impl Node {
         Ok(message)
     }
 
-    /// Takes a message, the one with this number from this replica.
+    /// Takes a message, which it heeds whole, the one with this number from this replica.
     pub(crate) fn take(
         &mut self,
         alloc: Global,
@@ -183,7 +184,7 @@ impl Node {
     ) -> Result<(), NoMemory>
         requires well_formed { IsWellFormed setup.now.spec }
         requires can { CanStep setup.now self.old }
-        requires fits { MessageFits setup.now.spec setup.now.replicas self.old.replica.me message.now }
+        requires whole { IsHeededWhole setup.now self.old.replica message.now }
         requires stamp { message.now.stamp < 2 ^ 63 }
         ensures { OnOk result (NodeSteps setup.now (asks.Take message.now.from (Some number)) (Some (sending_of message.now)) [] self.old self.new) }
     {

@@ -8,13 +8,12 @@ ghost use Rattle.replica_core.specs.Tables.{HasNoUpper};
 ghost use Rattle.scenario_text.specs.Built.{StaysUp};
 ghost use Rattle.scenario_text.specs.WellFormed.{ScheduleFits};
 ghost use Rattle.request_workers.specs.Histories.{AreLegal};
-ghost use Rattle.run_model.specs.Fitting.{MessageFits};
-ghost use Rattle.request_workers.specs.Nodes.{AreDone, AreFirst, AreRunning, CanStepAt, SendsAt, StepsAt, history_of, sending_of};
+ghost use Rattle.request_workers.specs.Nodes.{AreDone, AreFirst, AreRunning, CanStepAt, HeedsWholeAt, SendsAt, StepsAt, history_of, sending_of};
 
 use crate::links::{message_on, no_links, put};
 use crate::node::Node;
 use ind_base::{List, NoMemory};
-use replica_core::{firsts_keep_bounds, holds_are_small};
+use replica_core::{firsts_keep_bounds, holds_are_small, messages_are_heeded};
 use run_model::{
     Ask, History, Message, Order, finals_agree, local_step_is_one, runs_are_sound, runs_in_order,
 };
@@ -84,7 +83,7 @@ fn take_at(
     requires well_formed { IsWellFormed setup.now.spec }
     requires place { me < length nodes.old.items }
     requires can { CanStepAt setup.now me nodes.old.items }
-    requires fits { MessageFits setup.now.spec setup.now.replicas me message.now }
+    requires whole { HeedsWholeAt setup.now me message.now nodes.old.items }
     requires stamp { message.now.stamp < 2 ^ 63 }
     ensures { OnOk result (StepsAt setup.now me (asks.Take message.now.from (Some number)) (Some (sending_of message.now)) [] nodes.old.items nodes.new.items) }
 {
@@ -121,6 +120,7 @@ fn take_order(
     ensures { OnOk result (AreRunning setup.now (take (at + 1) schedule.now) nodes.new.items links.new.items) }
 {
     local_step_is_one();
+    messages_are_heeded();
     let order = schedule[at];
     let me = order.replica;
     match order.ask {

@@ -53,10 +53,11 @@ abbrev pub AreInRow : ℕ → ℕ → List LogItem → Type 0
 AreInRow origin at [] = Unit {0}
 AreInRow origin at (x ∷ xs) = (x.origin ≡ origin) × (x.index ≡ at) × (slice_index x.deps origin ≡ at) × AreInRow origin (at + 1) xs
 
--- a message from another replica, with at most 16 items of its own in a row and 8 wants
+-- a message from another replica to replica me, with at most 16 items of its own in a row and 8 wants
 pub record MessageFits (spec : Spec) (replicas me : ℕ) (message : Message) : Type 0 where
   pub sender : message.from < replicas
   pub other : message.from ≢ me
+  pub receiver : message.to ≡ me
   pub cut : length message.cut ≡ replicas
   pub items : AllByRecursion (ItemFits spec replicas) message.items
   pub first : ℕ

@@ -1,22 +1,32 @@
 use Rattle.std.proofs.Common.{inr, refl, subst, sym}
-use Rattle.replica_core.specs.Replicas.{IsReplica}
-use Rattle.run_model.specs.Fitting.{MessageFits}
+use Rattle.run_model.specs.declared.message.Message.{Message}
+use Rattle.run_model.specs.declared.step.Outcome.TheVariants as outcomes
+use Rattle.replica_core.specs.Decisions.{TakesHeeded}
+use Rattle.replica_core.specs.Replicas.{HasTaken, IsReplica}
 use Rattle.request_workers.proofs.node.receive.Goals as goal
 
 pub ready-requires-clause-decided : goal.ready-requires-clause-decided
-ready-requires-clause-decided c = inr (c.args.message.now, c.in_ok-taken.taken, c.requires.fits, c.in_ok-taken.ensures, refl)
+ready-requires-clause-decided c = inr (c.args.message.now, c.in_ok-taken.taken, c.in_ok-taken.ensures, refl)
 
 pub commit_take-requires-clause-own : goal.commit_take-requires-clause-own
 commit_take-requires-clause-own c = subst (λ i. IsReplica c.args.setup.now i c.ready.new.self) (sym c.ready.ensures.same.me) c.ready.ensures.same.own
 
-pub commit_take-requires-clause-fits : goal.commit_take-requires-clause-fits
-commit_take-requires-clause-fits c = subst (λ i. MessageFits c.args.setup.now.spec c.args.setup.now.replicas i c.args.message.now) (sym c.ready.ensures.same.me) c.requires.fits
-
 pub commit_take-requires-clause-decided : goal.commit_take-requires-clause-decided
-commit_take-requires-clause-decided c = c.ready.ensures.same.taken c.args.message.now c.in_ok-taken.taken c.in_ok-taken.ensures
+commit_take-requires-clause-decided c =
+    let same = c.ready.ensures.same in
+    let decided : TakesHeeded c.args.setup.now c.args.replica.now c.args.message.now c.in_ok-taken.taken = c.in_ok-taken.ensures in
+    record { heeded = decided.heeded; heeds = same.heeds c.args.message.now decided.heeded decided.heeds; takes = same.taken decided.heeded c.in_ok-taken.taken decided.takes }
 
 pub commit_take-requires-clause-room : goal.commit_take-requires-clause-room
 commit_take-requires-clause-room c = c.ready.ensures.same.room 24 c.requires.room
 
 pub returns : goal.returns
-returns c = c.ready.ensures.same.took c.args.message.now _ c.commit_take.new.self c.commit_take.ensures
+returns c =
+    let setup = c.args.setup.now in
+    let message : Message = c.args.message.now in
+    let taken = c.in_ok-taken.taken in
+    let same = c.ready.ensures.same in
+    let decided : TakesHeeded setup c.args.replica.now message taken = c.in_ok-taken.ensures in
+    let whole = c.requires.whole decided.heeded decided.heeds in
+    let done = c.commit_take.ensures decided.heeded (same.heeds message decided.heeded decided.heeds) (same.taken decided.heeded taken decided.takes) in
+    same.took message _ c.commit_take.new.self (subst (λ (m : Message). HasTaken setup m c.ready.new.self (outcomes.Took message.number taken.applied taken.accepted taken.gave) c.commit_take.new.self) whole done)

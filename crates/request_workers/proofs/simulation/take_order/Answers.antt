@@ -3,7 +3,7 @@ use Rattle.std.specs.Prelude.{Some, slice_get}
 use Rattle.run_model.specs.declared.step.Ask.TheVariants as asks
 use Rattle.request_workers.specs.Nodes.{put_on}
 use Rattle.request_workers.proofs.Stepped.{on_ok_then}
-use Rattle.request_workers.proofs.Ordered.{can_take, do_running, is_put, order_at, send_running, take_running, take_there}
+use Rattle.request_workers.proofs.Ordered.{can_take, do_running, heeded_at, is_put, order_at, send_running, take_running, take_there}
 use Rattle.request_workers.proofs.simulation.take_order.Goals as goal
 
 pub request_at-requires-clause-can : goal.request_at-requires-clause-can
@@ -52,15 +52,15 @@ message_on-message-requires-clause-there c =
     subst (λ l. number < length (put_on l from o.replica)) (sym c.deref.ensures.value)
     (take_there c.args.setup.now c.args.schedule.now c.args.at o from number c.args.nodes.now.items c.args.links.now.items a c.requires.running is)
 
-pub take_at-requires-clause-fits : goal.take_at-requires-clause-fits
-take_at-requires-clause-fits c =
+pub take_at-requires-clause-whole : goal.take_at-requires-clause-whole
+take_at-requires-clause-whole c =
     let o = c.index-schedule-at.result in
     let a = order_at c.args.setup.now c.args.schedule.now c.args.at o c.requires.schedule c.requires.place c.index-schedule-at.is in
     let from : ℕ = c.in-Take.from in
     let number : ℕ = c.given-number-in-Take.result in
     let is : o.ask ≡ asks.Take from (Some number) = c.in-Take.is ∙ ap (asks.Take from) (sym c.in-Take.number-is ∙ c.given-number-in-Take.ensures) in
     let there = subst (λ l. slice_get (put_on l from o.replica) number ≡ Some c.message_on-message.result.now) c.deref.ensures.value c.message_on-message.ensures in
-    (is_put c.args.setup.now c.args.schedule.now c.args.at o from number c.message_on-message.result.now c.args.nodes.now.items c.args.links.now.items a c.requires.running is there).fits
+    heeded_at c.args.setup.now c.args.schedule.now c.args.at o from number c.message_on-message.result.now c.args.nodes.now.items c.args.links.now.items c.messages_are_heeded.ensures c.requires.well_formed c.requires.few a c.requires.running is there
 
 pub take_at-requires-clause-stamp : goal.take_at-requires-clause-stamp
 take_at-requires-clause-stamp c =

@@ -1,47 +1,33 @@
-use Rattle.std.proofs.Common.{◌≡◌, ◌++◌, List, length, ap, sym, subst, ◌∙◌, arith, drop, take}
-use Rattle.spec_model.specs.declared.log.LogItem.{LogItem}
-use Rattle.replica_core.specs.Decisions.{IsReadyFor}
-use Rattle.replica_core.proofs.Committed.{accepted_within, joined_back}
+use Rattle.std.proofs.Common.{◌≡◌, false, true, sym, subst, ◌∙◌}
+use Rattle.run_model.specs.declared.message.Message.{Message}
+use Rattle.run_model.specs.declared.step.Outcome.TheVariants as outcomes
+use Rattle.replica_core.specs.Decisions.{IsTaken}
+use Rattle.replica_core.specs.Replicas.{HasTaken}
+use Rattle.replica_core.proofs.Silent.{heeded_nothing, heeded_part, nothing_done}
 use Rattle.replica_core.proofs.replica.Replica.commit_take.Goals as goal
 
-pub split_at-requires-2 : goal.split_at-requires-2
-split_at-requires-2 c =
-    let taken = c.args.taken.now in
-    let behind : c.split_at.result.1.now ≡ drop taken.applied taken.batch.items = c.split_at.ensures.back ∙ ap (drop taken.applied) c.as_slice.ensures.value in
-    omega (arith, ap length behind, accepted_within c.args.setup.now c.args.message.now c.args.self.now taken c.requires.own c.requires.fits c.requires.decided)
+pub commit_heeded-requires-clause-decided : goal.commit_heeded-requires-clause-decided
+commit_heeded-requires-clause-decided c =
+    let decided = c.requires.decided in
+    let part = heeded_part c.args.setup.now c.args.self.now c.args.message.now decided.heeded (c.is_addressed.ensures.0 c.if-is_addressed.true) decided.heeds in
+    (decided.heeded, part.0, part.1, part.3, decided.takes)
 
-pub do_all-requires-clause-splits : goal.do_all-requires-clause-splits
-do_all-requires-clause-splits c =
+pub returns-then-is_addressed : goal.returns-then-is_addressed
+returns-then-is_addressed c =
+    let setup = c.args.setup.now in
+    let r = c.args.self.now in
     let taken = c.args.taken.now in
-    let behind : c.split_at.result.1.now ≡ drop taken.applied taken.batch.items = c.split_at.ensures.back ∙ ap (drop taken.applied) c.as_slice.ensures.value in (
-      taken,
-      record {
-        own = c.requires.own;
-        fits = c.requires.fits;
-        decided = c.requires.decided;
-        front_is = c.split_at.ensures.front ∙ ap (take taken.applied) c.as_slice.ensures.value;
-        accepts_are = c.split_at-2.ensures.front ∙ ap (take taken.accepted) behind;
-        outs_are = c.split_at-2.ensures.back ∙ ap (drop taken.accepted) behind;
-      },
-    )
+    λ heeded heeds decided.
+    let part = heeded_part setup r c.args.message.now heeded (c.is_addressed.ensures.0 c.if-is_addressed.true) heeds in
+    subst (λ n. HasTaken setup heeded r (outcomes.Took n taken.applied taken.accepted taken.gave) c.commit_heeded.new.self) part.2 (c.commit_heeded.ensures heeded part.0 part.1 part.3 decided)
 
-pub do_all-requires-clause-ready : goal.do_all-requires-clause-ready
-do_all-requires-clause-ready c =
+pub returns-else-is_addressed : goal.returns-else-is_addressed
+returns-else-is_addressed c =
+    let setup = c.args.setup.now in
+    let r = c.args.self.now in
+    let message = c.args.message.now in
     let taken = c.args.taken.now in
-    let own : List LogItem = c.split_at.result.1.now in
-    let parts : own ≡ c.split_at-2.result.0.now ++ c.split_at-2.result.1.now = joined_back taken.accepted own c.split_at-2.result.0.now c.split_at-2.result.1.now c.split_at-2.ensures.front c.split_at-2.ensures.back in
-    let all : c.as_slice.result.now ≡ c.split_at.result.0.now ++ own = joined_back taken.applied c.as_slice.result.now c.split_at.result.0.now own c.split_at.ensures.front c.split_at.ensures.back in
-    subst (IsReadyFor c.args.self.now) (sym c.as_slice.ensures.value ∙ all ∙ ap (λ (l : List LogItem). c.split_at.result.0.now ++ l) parts) c.requires.ready
-
-pub returns : goal.returns
-returns c =
-    let taken = c.args.taken.now in
-    let behind : c.split_at.result.1.now ≡ drop taken.applied taken.batch.items = c.split_at.ensures.back ∙ ap (drop taken.applied) c.as_slice.ensures.value in
-    c.do_all.ensures taken (record {
-      own = c.requires.own;
-      fits = c.requires.fits;
-      decided = c.requires.decided;
-      front_is = c.split_at.ensures.front ∙ ap (take taken.applied) c.as_slice.ensures.value;
-      accepts_are = c.split_at-2.ensures.front ∙ ap (take taken.accepted) behind;
-      outs_are = c.split_at-2.ensures.back ∙ ap (drop taken.accepted) behind;
-    })
+    λ heeded heeds decided.
+    let is = heeded_nothing setup r message heeded (λ addressed. absurd (let wrong : false ≡ true = sym c.if-is_addressed.false ∙ c.is_addressed.ensures.1 addressed in cc)) heeds in
+    subst (λ (m : Message). HasTaken setup m r (outcomes.Took message.number taken.applied taken.accepted taken.gave) c.drop_met.new.self) (sym is)
+    (nothing_done setup message r c.drop_met.new.self taken c.requires.own c.drop_met.ensures (subst (λ (m : Message). IsTaken setup m r taken) is decided))

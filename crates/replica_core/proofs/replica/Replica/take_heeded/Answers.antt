@@ -4,7 +4,7 @@ use Rattle.spec_model.specs.declared.log.LogItem.{LogItem}
 use Rattle.replica_core.specs.Drafts.{HasDraftedAnswers}
 use Rattle.replica_core.specs.declared.draft.Draft.{Draft}
 use Rattle.replica_core.proofs.Drafted.{Starts, accepted_draft, is_taken, started, started_few}
-use Rattle.replica_core.proofs.replica.Replica.take.Goals as goal
+use Rattle.replica_core.proofs.replica.Replica.take_heeded.Goals as goal
 
 pub accept_all-requires-clause-own : goal.accept_all-requires-clause-own
 accept_all-requires-clause-own c =

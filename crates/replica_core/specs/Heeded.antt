@@ -1,0 +1,96 @@
+-- What a replica heeds of a message that may be any: in a run that is all of it.
+use Rattle.std.specs.Prelude.{◌≡◌, ◌≢◌, ◌⊎◌, ℕ, ◌+◌, ◌<◌, ◌≤◌, ◌^◌, List, [], ◌∷◌, ◌++◌, length, take, sum_by, slice_get, slice_index, Some}
+use Rattle.std.specs.List.{AllByRecursion}
+use Rattle.spec_model.specs.declared.plan.Setup.{Setup}
+use Rattle.spec_model.specs.declared.spec.Spec.{Spec}
+use Rattle.spec_model.specs.declared.instance.Cell.{Cell}
+use Rattle.spec_model.specs.declared.right.Right.TheVariants as right
+use Rattle.spec_model.specs.declared.right.Want.{Want}
+use Rattle.spec_model.specs.declared.log.LogItem.{LogItem}
+use Rattle.run_model.specs.declared.message.Message.{Message}
+use Rattle.run_model.specs.Fitting.{AreInRow, ItemFits, WantFits}
+use Rattle.run_model.specs.Rights.{held_count}
+use Rattle.run_model.specs.Steps.{unseen}
+use Rattle.run_model.specs.Worlds.{no_cut}
+use Rattle.causal_store.specs.Stores.{cut_in}
+use Rattle.replica_core.specs.Drafts.{gives_to}
+use Rattle.replica_core.specs.Replicas.{known_to, own_log}
+use Rattle.replica_core.specs.declared.replica.Replica.{Replica}
+
+-- the message is from another replica of the setup to replica me, and tells a count of each replica's items
+pub record IsAddressed (setup : Setup) (me : ℕ) (message : Message) : Type 0 where
+  pub sender : message.from < setup.replicas
+  pub other : message.from ≢ me
+  pub receiver : message.to ≡ me
+  pub cut : length message.cut ≡ setup.replicas
+
+-- how many rights to lower a cell replica r would hold, had it accepted what these items give to it and it hasn't seen
+abbrev pub held_after : Setup → Replica → List LogItem → Cell → ℕ
+held_after setup r items cell =
+    held_count setup (known_to r) r.me (own_log r) (right.Low cell) + sum_by (λ item. gives_to r.me (right.Low cell) item.body) (unseen (cut_in r.store) items)
+
+-- what the item gives behind these doesn't bring what it holds of the cell past 2 ^ 62
+abbrev pub StaysSmall : Setup → Replica → List LogItem → LogItem → Cell → Type 0
+StaysSmall setup r before item cell = held_after setup r (before ++ item ∷ []) cell ≢ held_after setup r before cell → held_after setup r (before ++ item ∷ []) cell ≤ 2 ^ 62
+
+-- nor what it holds of any cell
+abbrev pub CanAccept : Setup → Replica → List LogItem → LogItem → Type 0
+CanAccept setup r before item = (cell : Cell) → StaysSmall setup r before item cell
+
+-- this item of the sender's log, with just the items of that log before it in its past
+pub record IsItem (from index : ℕ) (item : LogItem) : Type 0 where
+  pub origin : item.origin ≡ from
+  pub index_is : item.index ≡ index
+  pub past : slice_index item.deps from ≡ index
+
+-- the index of the first of these items
+abbrev pub first_at : List LogItem → ℕ
+first_at [] = 0
+first_at (item ∷ items) = item.index
+
+-- the item fits, is this one of the sender's log, and can be accepted behind these
+pub record MayFollow (setup : Setup) (r : Replica) (from index : ℕ) (before : List LogItem) (item : LogItem) : Type 0 where
+  pub fits : ItemFits setup.spec setup.replicas item
+  pub is : IsItem from index item
+  pub accepted : CanAccept setup r before item
+
+-- items of this sender that replica r may apply: in a row in its log, each of which fits the setup and can be accepted
+pub record MayApply (setup : Setup) (r : Replica) (from : ℕ) (items : List LogItem) : Type 0 where
+  pub first : ℕ
+  pub row : AreInRow from first items
+  pub fits : AllByRecursion (ItemFits setup.spec setup.replicas) items
+  pub accepted : (k : ℕ) (item : LogItem) → slice_get items k ≡ Some item → CanAccept setup r (take k items) item
+
+-- of these items the longest front that it may apply
+pub record AreHeeded (setup : Setup) (r : Replica) (from : ℕ) (items heeded : List LogItem) : Type 0 where
+  pub rest : List LogItem
+  pub front : items ≡ heeded ++ rest
+  pub may : MayApply setup r from heeded
+  pub longest : (item : LogItem) (behind : List LogItem) → rest ≡ item ∷ behind → MayApply setup r from (heeded ++ item ∷ []) → ⊥
+
+-- of these wants those that fit, in their order
+abbrev pub AreFitting : Spec → List Want → List Want → Type 0
+AreFitting spec [] fitting = fitting ≡ []
+AreFitting spec (want ∷ wants) fitting =
+    (WantFits spec want × (rest : List Want) × (fitting ≡ want ∷ rest) × AreFitting spec wants rest)
+    ⊎ ((WantFits spec want → ⊥) × AreFitting spec wants fitting)
+
+-- of a message that is addressed at most the first 16 items and the first 8 wants
+pub record IsPartOf (setup : Setup) (r : Replica) (message heeded : Message) : Type 0 where
+  pub items : AreHeeded setup r message.from (take 16 message.items) heeded.items
+  pub wants : AreFitting setup.spec (take 8 message.wants) heeded.wants
+  pub all_else : heeded ≡ record message { items = heeded.items; wants = heeded.wants }
+
+-- a message that tells, brings and wants nothing
+abbrev pub silent : ℕ → Message → Message
+silent replicas message = record message { cut = no_cut replicas; items = []; wants = [] }
+
+-- what replica r heeds of a message, as a message of its own: of one that isn't addressed to it nothing
+abbrev pub Heeds : Setup → Replica → Message → Message → Type 0
+Heeds setup r message heeded =
+    (IsAddressed setup r.me message × IsPartOf setup r message heeded)
+    ⊎ ((IsAddressed setup r.me message → ⊥) × (heeded ≡ silent setup.replicas message))
+
+-- replica r heeds the message whole
+abbrev pub IsHeededWhole : Setup → Replica → Message → Type 0
+IsHeededWhole setup r message = (heeded : Message) → Heeds setup r message heeded → heeded ≡ message
