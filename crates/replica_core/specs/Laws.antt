@@ -1,18 +1,25 @@
--- Laws of runs that bound what a replica holds.
+-- Laws of runs that bound what a replica holds, and of requests.
 use Rattle.std.specs.Prelude.{ℕ, ◌<◌, ◌≤◌, ◌^◌, List, length, Contains}
 use Rattle.spec_model.specs.declared.plan.Setup.{Setup}
 use Rattle.spec_model.specs.declared.spec.Spec.{Spec}
+use Rattle.spec_model.specs.declared.clause.Broken.{Broken}
 use Rattle.spec_model.specs.declared.instance.Cell.{Cell}
+use Rattle.spec_model.specs.declared.instance.Inst.{Inst}
 use Rattle.spec_model.specs.declared.right.Right.TheVariants as right
 use Rattle.spec_model.specs.Bounds.{KeepsBounds}
 use Rattle.spec_model.specs.Fits.{IsWellFormed}
 use Rattle.spec_model.specs.Universe.{cells, first_value}
+use Rattle.run_model.specs.declared.step.Outcome.TheVariants as outcomes
 use Rattle.run_model.specs.declared.step.StepEntry.{StepEntry}
 use Rattle.run_model.specs.Locals.{Local, StandsIn}
 use Rattle.run_model.specs.Logs.{log_at}
 use Rattle.run_model.specs.Rights.{held_count}
 use Rattle.run_model.specs.Runs.{Runs}
 use Rattle.run_model.specs.Worlds.{World, first_world, logs_of}
+use Rattle.replica_core.specs.Decisions.{Decides}
+use Rattle.replica_core.specs.Replicas.{HasAnswered, IsReplica}
+use Rattle.replica_core.specs.declared.decision.Decision.TheVariants as decision
+use Rattle.replica_core.specs.declared.replica.Replica.{Replica}
 
 -- each cell begins within its bounds
 abbrev pub FirstsKeepBounds : Type 0
@@ -23,3 +30,7 @@ abbrev pub HoldsAreSmall : Type 0
 HoldsAreSmall = (setup : Setup) (entries : List StepEntry) (world : World) (me : ℕ) (l : Local) (cell : Cell)
     → IsWellFormed setup.spec → setup.replicas ≤ 8 → 0 < setup.replicas → Runs setup (first_world setup.replicas) entries world → StandsIn world me l
     → ((j : ℕ) → length (log_at (logs_of world) j) ≤ 4194304) → Contains (cells setup.spec) cell → held_count setup l.known me l.standing.log (right.Low cell) < 2 ^ 64
+
+-- a request whose effect would break a clause leaves the replica as it is
+abbrev pub BreaksChangeNothing : Type 0
+BreaksChangeNothing = (setup : Setup) (r : Replica) (inst : Inst) (broken : Broken) → IsReplica setup r.me r → Decides setup inst r (decision.Breaks broken) → HasAnswered setup inst r (outcomes.Breaks broken) r

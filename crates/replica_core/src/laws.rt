@@ -1,6 +1,6 @@
-//! Laws of runs, for callers to cite.
+//! Laws of runs and of requests, for callers to cite.
 
-ghost use Rattle.replica_core.specs.Laws.{FirstsKeepBounds, HoldsAreSmall};
+ghost use Rattle.replica_core.specs.Laws.{BreaksChangeNothing, FirstsKeepBounds, HoldsAreSmall};
 
 /// Each cell begins within its bounds.
 pub fn firsts_keep_bounds()
@@ -11,4 +11,9 @@ pub fn firsts_keep_bounds()
 /// replicas that log at most 2^22 items each.
 pub fn holds_are_small()
     ensures { HoldsAreSmall }
+{}
+
+/// A request whose effect would break a clause is answered by the replica as it is.
+pub fn breaks_change_nothing()
+    ensures { BreaksChangeNothing }
 {}
