@@ -4,7 +4,9 @@ use Rattle.std.specs.List.{AllByRecursion}
 use Rattle.std.specs.Option.{option_map_or}
 use Rattle.spec_model.specs.declared.spec.Spec.{Spec}
 use Rattle.spec_model.specs.declared.log.LogItem.{LogItem}
-use Rattle.run_model.specs.Logs.{Logs}
+use Rattle.spec_model.specs.Truths.{Truths}
+use Rattle.run_model.specs.Logs.{Logs, items_in}
+use Rattle.run_model.specs.States.{truth_of}
 use Rattle.run_model.specs.Fitting.{ItemFits}
 use Rattle.causal_store.specs.declared.store.Store.{Store}
 
@@ -22,6 +24,10 @@ pub record IsStore (spec : Spec) (replicas : ℕ) (s : Store) : Type 0 where
   pub few : replicas ≤ 16
   pub counts : cut_in s ≡ map (λ log. length log) (logs_in s)
   pub fits : AllByRecursion (AllByRecursion (ItemFits spec replicas)) (logs_in s)
+
+-- the truths of the state of the acts that it has
+abbrev pub state_truths : Spec → Store → Truths
+state_truths spec s = truth_of spec (items_in (cut_in s) (logs_in s))
 
 -- no log has more items than a sum of their changes can bear
 abbrev pub IsShort : Store → Type 0

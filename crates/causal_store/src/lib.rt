@@ -2,6 +2,10 @@
 #![tactic(auto)]
 
 mod fold;
+mod laws;
 mod store;
+mod truths;
 
+pub use laws::stores_agree;
 pub use store::Store;
+pub use truths::StoreTruths;

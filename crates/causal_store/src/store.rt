@@ -5,12 +5,12 @@ ghost use Rattle.std.specs.List.{list_any};
 ghost use Rattle.spec_model.specs.declared.spec.Spec.{Spec};
 ghost use Rattle.spec_model.specs.declared.log.LogItem.{LogItem as ItemOf};
 ghost use Rattle.spec_model.specs.Fits.{IsWellFormed};
-ghost use Rattle.run_model.specs.Logs.{items_in, log_at};
+ghost use Rattle.run_model.specs.Logs.{LiesWithin, items_in, log_at};
 ghost use Rattle.run_model.specs.Fitting.{ItemFits};
 ghost use mathlib.Core.Bool.{beq};
 ghost use Rattle.spec_model.specs.Truths.{pred_at, wins};
 ghost use Rattle.spec_model.specs.Universe.{first_value};
-ghost use Rattle.run_model.specs.States.{is_first_unfollowed, is_setter, is_unfollowed, prevails, truth_of, value_of};
+ghost use Rattle.run_model.specs.States.{is_first_unfollowed, is_setter, is_unfollowed, prevails, value_of};
 ghost use Rattle.causal_store.specs.Folds.{all_items, is_setter_past, known_by};
 
 use crate::fold::{has_setter, has_setter_past, join_setters, log_lowers, log_raises};
@@ -79,13 +79,15 @@ fn push_within(log: &mut Vec<LogItem>, item: &LogItem)
 }
 
 impl Store {
-    ghost use Rattle.causal_store.specs.Stores.{HasRoomFor, IsShort, IsStore, cut_in, logs_in, room_in};
+    ghost use Rattle.causal_store.specs.Agreeing.{HasApplied};
+    ghost use Rattle.causal_store.specs.Stores.{HasRoomFor, IsShort, IsStore, cut_in, logs_in, room_in, state_truths};
 
     /// No items, of so many replicas.
     pub fn begin(alloc: Global, replicas: u32) -> Result<Store, NoMemory>
         requires { replicas ≤ 16 }
         ensures empty { IfOk result (λ s. logs_in s ≡ replicate replicas []) }
         ensures own { (spec : Spec) → IfOk result (IsStore spec replicas) }
+        ensures applied { (spec : Spec) → IfOk result (HasApplied spec replicas []) }
     {
         let mut logs = Vec::new(alloc);
         let mut cut = Cut::new();
@@ -145,6 +147,7 @@ impl Store {
         requires room { (items : List ItemOf) × HasRoomFor self.old (item.now ∷ items) }
         ensures applied { logs_in self.new ≡ slice_set (logs_in self.old) item.now.origin (log_at (logs_in self.old) item.now.origin ++ item.now ∷ []) }
         ensures own { IsStore spec.now (length (logs_in self.old)) self.new }
+        ensures order { (items : List ItemOf) → HasApplied spec.now (length (logs_in self.old)) items self.old → LiesWithin item.now.deps (cut_in self.old) → HasApplied spec.now (length (logs_in self.old)) (items ++ item.now ∷ []) self.new }
         ensures room { (items : List ItemOf) → HasRoomFor self.old (item.now ∷ items) → HasRoomFor self.new items }
     {
         let origin = item.origin as usize;
@@ -218,7 +221,7 @@ impl Store {
     /// The truth of an atom in the state of all acts that were applied.
     pub fn truth(&self, spec: &Specification, atom: &Atom) -> bool
         requires { IsStore spec.now (length (logs_in self.now)) self.now }
-        ensures { result ≡ truth_of spec.now (items_in (cut_in self.now) (logs_in self.now)) atom.now.pred atom.now.args }
+        ensures { result ≡ state_truths spec.now self.now atom.now.pred atom.now.args }
     {
         let winning = winning_value(spec, atom.pred);
         if self.prevails(spec, atom, winning) {

@@ -12,24 +12,26 @@ use Rattle.spec_model.specs.declared.log.Body.{Body}
 use Rattle.spec_model.specs.declared.log.Body.TheVariants as body
 use Rattle.spec_model.specs.declared.log.LogItem.{LogItem}
 use Rattle.spec_model.specs.Fits.{InstFits}
+use Rattle.spec_model.specs.Breaks.{broken_by}
 use Rattle.spec_model.specs.Needs.{needs}
 use Rattle.run_model.specs.declared.batch.Batch.{Batch}
 use Rattle.run_model.specs.declared.message.Message.{Message}
 use Rattle.run_model.specs.declared.step.Outcome.{Outcome}
 use Rattle.run_model.specs.declared.step.Outcome.TheVariants as outcomes
-use Rattle.run_model.specs.Logs.{Logs, item_at, log_at}
+use Rattle.run_model.specs.Logs.{Logs, item_at, items_in, log_at}
 use Rattle.run_model.specs.Worlds.{Sending, Standing, logged}
 use Rattle.run_model.specs.Steps.{AreAdmitted, Requests, Takes, accepts_of, answered, cut_after, dropped, received, unseen}
 use Rattle.run_model.specs.Fitting.{AreInRow, ItemFits, MessageFits}
 use Rattle.run_model.proofs.Escrow.{spends_held}
 use Rattle.run_model.specs.Rights.{first_lacking, held_count, held_of}
+use Rattle.run_model.specs.States.{truth_of}
 use Rattle.run_model.specs.Wants.{still_wanted}
 use Rattle.run_model.proofs.Lists.{each_append, each_weaker}
 use Rattle.causal_store.specs.Stores.{cut_in, logs_in}
 use Rattle.causal_store.specs.declared.store.Store.{Store}
 use Rattle.replica_core.specs.Tables.{AreHeld}
 use Rattle.replica_core.specs.Replicas.{AreCovered, HasAnswered, HasLearned, HasLoggedAll, HasTaken, IsKnown, IsReplica, KnowsOwn, holds_of, known_to, own_log, standing_of, with_items}
-use Rattle.replica_core.specs.Decisions.{AreNext, Decides, IsDecided, IsTaken, Splits, StaysSame}
+use Rattle.replica_core.specs.Decisions.{AreNext, Decides, IsDecided, IsTaken, Splits, StaysSame, broken_here}
 use Rattle.replica_core.specs.Drafts.{gives_to}
 use Rattle.replica_core.specs.Heeded.{held_after}
 use Rattle.replica_core.specs.declared.decision.Decision.{Decision}
@@ -73,7 +75,7 @@ pub act_done : (setup : Setup) (old new : Replica) (inst : Inst) (batch : Batch)
     → HasAnswered setup inst old (outcomes.Done (length (own_log old))) new
 act_done setup old new inst batch items decides is h =
     let logged : HasLoggedAll setup (body.Act inst ∷ []) old new = subst (λ (l : List LogItem). HasLoggedAll setup (map (λ (i : LogItem). i.body) l) old new) (is ∙ decides.1) h in
-    answered_done setup inst old new (length (own_log old)) refl (sym decides.0) (record { own = logged.own; stands = logged.stands; knows = logged.knows })
+    answered_done setup inst old new (length (own_log old)) refl decides.2 (sym decides.0) (record { own = logged.own; stands = logged.stands; knows = logged.knows })
 
 -- ---- a take
 
@@ -290,12 +292,17 @@ same_store setup old s own logs cut =
         ap (λ (l : Logs). held_count setup l old.me (log_at l old.me) (right.Low cell) + sum_by (λ (i : LogItem). gives_to old.me (right.Low cell) i.body) (unseen (cut_in old.store) items)) (sym logs)
         ∙ ap (λ (k : List ℕ). held_count setup (logs_in s) old.me (log_at (logs_in s) old.me) (right.Low cell) + sum_by (λ (i : LogItem). gives_to old.me (right.Low cell) i.body) (unseen k items)) (sym cut)
 
+    same_broken : (inst : Inst) → broken_here setup inst old ≡ broken_here setup inst (record old { store = s })
+    same_broken inst =
+        ap (λ (l : Logs). broken_by setup.spec (truth_of setup.spec (items_in (cut_in old.store) l)) inst) (sym logs) ∙ ap (λ (k : List ℕ). broken_by setup.spec (truth_of setup.spec (items_in k (logs_in s))) inst) (sym cut)
+
     same_decision : (inst : Inst) (d : Decision) → Decides setup inst old d → Decides setup inst (record old { store = s }) d
-    same_decision inst (decision.Breaks broken) h = h
-    same_decision inst (decision.Short lacking) h = (subst (λ (l : Logs). first_lacking (λ need. held_of setup l old.me (log_at l old.me) need) (needs setup inst) ≡ Some lacking) (sym logs) h.0, h.1)
+    same_decision inst (decision.Breaks broken) h = sym (same_broken inst) ∙ h
+    same_decision inst (decision.Short lacking) h = (subst (λ (l : Logs). first_lacking (λ need. held_of setup l old.me (log_at l old.me) need) (needs setup inst) ≡ Some lacking) (sym logs) h.0, h.1, sym (same_broken inst) ∙ h.2)
     same_decision inst (decision.Act batch) h = (
       subst (λ (l : Logs). first_lacking (λ need. held_of setup l old.me (log_at l old.me) need) (needs setup inst) ≡ None) (sym logs) h.0,
       h.1 ∙ ap (λ (l : Logs). record { origin = old.me; index = length (log_at l old.me); deps = cut_in old.store; body = body.Act inst } ∷ []) (sym logs) ∙ ap (λ (k : List ℕ). record { origin = old.me; index = length (log_at (logs_in s) old.me); deps = k; body = body.Act inst } ∷ []) (sym cut),
+      sym (same_broken inst) ∙ h.2,
     )
 
 pub stays_same : (setup : Setup) (old new : Replica) → IsReplica setup old.me old → new ≡ record old { store = new.store } → logs_in new.store ≡ known_to old → cut_in new.store ≡ cut_in old.store → StaysSame setup old new

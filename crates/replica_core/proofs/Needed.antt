@@ -7,6 +7,7 @@ use Rattle.std.proofs.lemmas.Bool.{cond_both, cond-false}
 use Rattle.std.proofs.lemmas.List.{length_push, length-map}
 use Rattle.spec_model.specs.declared.plan.Setup.{Setup}
 use Rattle.spec_model.specs.declared.spec.Spec.{Spec}
+use Rattle.spec_model.specs.declared.clause.Broken.{Broken}
 use Rattle.spec_model.specs.declared.instance.Inst.{Inst}
 use Rattle.spec_model.specs.declared.instance.Cell.{Cell}
 use Rattle.spec_model.specs.declared.right.Right.TheVariants as right
@@ -20,16 +21,18 @@ use Rattle.spec_model.specs.Universe.{cells, upper_bound}
 use Rattle.spec_model.specs.Changes.{net_rise}
 use Rattle.spec_model.specs.Needs.{escrow_need, escrow_needs, spends}
 use Rattle.effect_model.specs.Amounts.{IsFew}
+use Rattle.run_model.specs.declared.step.Outcome.{Outcome}
 use Rattle.run_model.specs.declared.step.Outcome.TheVariants as outcomes
 use Rattle.run_model.specs.Logs.{Logs}
 use Rattle.run_model.specs.Rights.{first_lacking, is_met}
-use Rattle.run_model.specs.Worlds.{Standing}
-use Rattle.run_model.specs.Steps.{Requested}
+use Rattle.run_model.specs.Worlds.{Sending, Standing}
+use Rattle.run_model.specs.Steps.{Requested, Requests}
 use Rattle.run_model.specs.Wants.{behind, is_on, noted, replaced, want_of}
 use Rattle.run_model.specs.Fitting.{WantFits}
 use Rattle.run_model.proofs.Lists.{each_append, each_weaker}
 use Rattle.replica_core.specs.Tables.{HasNoUpper, NeedFits, low_need}
 use Rattle.replica_core.specs.Replicas.{HasAnswered, HasLogged, IsReplica, holds_of, item_of, known_to, own_log, standing_of}
+use Rattle.replica_core.specs.Decisions.{broken_here}
 use Rattle.replica_core.specs.declared.replica.Replica.{Replica}
 use Rattle.replica_core.proofs.Changes.{set_back}
 
@@ -146,15 +149,32 @@ heard_replica setup me old new own h = subst (IsReplica setup me) (sym h.is) (re
 
 -- ---- requests
 
+-- where no clause would break, what is needed decides
+unbroken : (setup : Setup) (inst : Inst) (old new : Replica) (outcome : Outcome) (stamp : ℕ) (sendings : List Sending) → broken_here setup inst old ≡ None
+    → Requested old.me inst None (first_lacking (holds_of setup old) (escrow_needs setup.spec inst)) (standing_of stamp sendings old) outcome (standing_of stamp sendings new)
+    → Requests setup (known_to old) old.me inst (standing_of stamp sendings old) outcome (standing_of stamp sendings new)
+unbroken setup inst old new outcome stamp sendings whole is =
+    subst (λ b. Requested old.me inst b (first_lacking (holds_of setup old) (escrow_needs setup.spec inst)) (standing_of stamp sendings old) outcome (standing_of stamp sendings new)) (sym whole) is
+
+-- where one would, nothing changes
+pub answered_breaks : (setup : Setup) (r : Replica) (inst : Inst) (broken : Broken) → IsReplica setup r.me r → broken_here setup inst r ≡ Some broken → HasAnswered setup inst r (outcomes.Breaks broken) r
+answered_breaks setup r inst broken own is = record {
+  own = own;
+  requests = λ stamp sendings.
+      subst (λ b. Requested r.me inst b (first_lacking (holds_of setup r) (escrow_needs setup.spec inst)) (standing_of stamp sendings r) (outcomes.Breaks broken) (standing_of stamp sendings r)) (sym is) (refl, refl);
+  knows = sym (set_back (known_to r) r.me);
+  grown = omega arith;
+}
+
 -- short of a need, which is wanted
-pub answered_short : (setup : Setup) (inst : Inst) (old new : Replica) (l : Lacking) → IsReplica setup old.me old → NeedFits setup.spec l.need
+pub answered_short : (setup : Setup) (inst : Inst) (old new : Replica) (l : Lacking) → IsReplica setup old.me old → NeedFits setup.spec l.need → broken_here setup inst old ≡ None
     → Some l ≡ first_lacking (holds_of setup old) (escrow_needs setup.spec inst) → new ≡ record old { wants = noted old.wants (want_of l.need) } → HasAnswered setup inst old (outcomes.Short l) new
-answered_short setup inst old new l own need is becomes =
+answered_short setup inst old new l own need whole is becomes =
     let want : Want = want_of l.need in
     let fits : WantFits setup.spec want = want_fits setup.spec l.need need in
     record {
       own = heard_replica setup old.me old new own (record { wants = noted old.wants want; told = old.told; is = becomes; fit = noted_fit (WantFits setup.spec) old.wants want own.wants fits; few = noted_few old.wants want own.few_wants; whole = own.told; each = own.told_each });
-      requests = λ stamp sendings. subst (λ o. Requested old.me inst o (standing_of stamp sendings old) (outcomes.Short l) (standing_of stamp sendings new)) is (refl, ap (standing_of stamp sendings) becomes);
+      requests = λ stamp sendings. unbroken setup inst old new (outcomes.Short l) stamp sendings whole (subst (λ o. Requested old.me inst None o (standing_of stamp sendings old) (outcomes.Short l) (standing_of stamp sendings new)) is (refl, ap (standing_of stamp sendings) becomes));
       knows = subst (λ (r : Replica). known_to r ≡ set_log r) (sym becomes) (sym (set_back (known_to old) old.me));
       grown = omega (arith, ap (λ (r : Replica). length (own_log r)) becomes);
     }
@@ -163,11 +183,11 @@ answered_short setup inst old new l own need is becomes =
     set_log r = slice_set (known_to old) r.me (own_log r)
 
 -- done where nothing is lacking
-pub answered_done : (setup : Setup) (inst : Inst) (old new : Replica) (index : ℕ) → index ≡ length (own_log old) → None ≡ first_lacking (holds_of setup old) (escrow_needs setup.spec inst) → HasLogged setup (body.Act inst) old new
+pub answered_done : (setup : Setup) (inst : Inst) (old new : Replica) (index : ℕ) → index ≡ length (own_log old) → broken_here setup inst old ≡ None → None ≡ first_lacking (holds_of setup old) (escrow_needs setup.spec inst) → HasLogged setup (body.Act inst) old new
     → HasAnswered setup inst old (outcomes.Done index) new
-answered_done setup inst old new index at is h = record {
+answered_done setup inst old new index at whole is h = record {
   own = h.own;
-  requests = λ stamp sendings. subst (λ o. Requested old.me inst o (standing_of stamp sendings old) (outcomes.Done index) (standing_of stamp sendings new)) is (ap outcomes.Done at, h.stands stamp sendings);
+  requests = λ stamp sendings. unbroken setup inst old new (outcomes.Done index) stamp sendings whole (subst (λ o. Requested old.me inst None o (standing_of stamp sendings old) (outcomes.Done index) (standing_of stamp sendings new)) is (ap outcomes.Done at, h.stands stamp sendings));
   knows = h.knows;
   grown = omega (arith, ap (λ (p : Standing). length p.log) (h.stands 0 []), length-append (own_log old) (item_of old (body.Act inst) ∷ []));
 }

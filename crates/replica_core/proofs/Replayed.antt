@@ -23,7 +23,8 @@ use Rattle.causal_store.specs.Stores.{IsStore, cut_in}
 use Rattle.replica_core.specs.declared.decision.Decision.TheVariants as decision
 use Rattle.replica_core.specs.declared.replica.Replica.{Replica}
 use Rattle.replica_core.specs.Decisions.{AreNext, Decides, IsDecided, StaysSame}
-use Rattle.replica_core.specs.Recovered.{AreDecided, HasReplayed, with_all}
+use Rattle.replica_core.specs.Recovered.{AreDecided, HasReplayed}
+use Rattle.causal_store.specs.Agreeing.{with_all}
 use Rattle.replica_core.specs.Replicas.{CanLearn, HasLearned, HasLoggedAll, IsKnown, IsReplica, known_to, own_log, standing_of, with_items}
 use Rattle.replica_core.proofs.Changes.{set_again}
 use Rattle.replica_core.proofs.Committed.{act_next, back_of, before_of, decided_parts, front_of, start_of, stays_same}

@@ -1,6 +1,7 @@
 -- What a replica decides by itself, and what it commits.
-use Rattle.std.specs.Prelude.{◌≡◌, ◌⊎◌, ℕ, ◌≤◌, List, [], ◌∷◌, ◌++◌, length, drop, take, Some, None, Contains}
+use Rattle.std.specs.Prelude.{◌≡◌, ◌⊎◌, ℕ, ◌≤◌, List, [], ◌∷◌, ◌++◌, length, drop, take, Option, Some, None, Contains}
 use Rattle.spec_model.specs.declared.plan.Setup.{Setup}
+use Rattle.spec_model.specs.declared.clause.Broken.{Broken}
 use Rattle.spec_model.specs.declared.instance.Inst.{Inst}
 use Rattle.spec_model.specs.declared.instance.Cell.{Cell}
 use Rattle.spec_model.specs.declared.right.Right.TheVariants as right
@@ -8,6 +9,7 @@ use Rattle.spec_model.specs.declared.log.Body.TheVariants as body
 use Rattle.spec_model.specs.declared.log.LogItem.{LogItem}
 use Rattle.spec_model.specs.Fits.{InstFits}
 use Rattle.spec_model.specs.Universe.{cells}
+use Rattle.spec_model.specs.Breaks.{broken_by}
 use Rattle.spec_model.specs.Needs.{needs}
 use Rattle.run_model.specs.declared.message.Message.{Message}
 use Rattle.run_model.specs.declared.batch.Batch.{Batch}
@@ -18,7 +20,7 @@ use Rattle.run_model.specs.Rights.{body_loses, first_lacking, held_count}
 use Rattle.run_model.specs.Worlds.{Standing, logged}
 use Rattle.run_model.specs.Steps.{Takes}
 use Rattle.run_model.specs.Fitting.{BodyFits, MessageFits}
-use Rattle.causal_store.specs.Stores.{HasRoomFor}
+use Rattle.causal_store.specs.Stores.{HasRoomFor, state_truths}
 use Rattle.replica_core.specs.Tables.{NeedFits}
 use Rattle.replica_core.specs.Heeded.{Heeds}
 use Rattle.replica_core.specs.Replicas.{HasAnswered, HasRoom, HasTaken, IsKnown, IsReplica, holds_of, item_of, known_to, own_log, standing_of, with_items}
@@ -27,11 +29,15 @@ use Rattle.replica_core.specs.declared.decision.Decision.TheVariants as decision
 use Rattle.replica_core.specs.declared.decision.Taken.{Taken}
 use Rattle.replica_core.specs.declared.replica.Replica.{Replica}
 
--- what it decides on a request: short of the first need that it doesn't meet, else one act, with all that it has seen in its past
+-- the first clause and elements that an effect would break in its state
+abbrev pub broken_here : Setup → Inst → Replica → Option Broken
+broken_here setup inst r = broken_by setup.spec (state_truths setup.spec r.store) inst
+
+-- what it decides on a request: that a clause would break, else that it is short of the first need that it doesn't meet, else one act, with all that it has seen in its past
 abbrev pub Decides : Setup → Inst → Replica → Decision → Type 0
-Decides setup inst r (decision.Breaks broken) = ⊥
-Decides setup inst r (decision.Short lacking) = (first_lacking (holds_of setup r) (needs setup inst) ≡ Some lacking) × NeedFits setup.spec lacking.need
-Decides setup inst r (decision.Act batch) = (first_lacking (holds_of setup r) (needs setup inst) ≡ None) × (batch.items ≡ item_of r (body.Act inst) ∷ [])
+Decides setup inst r (decision.Breaks broken) = broken_here setup inst r ≡ Some broken
+Decides setup inst r (decision.Short lacking) = (first_lacking (holds_of setup r) (needs setup inst) ≡ Some lacking) × NeedFits setup.spec lacking.need × (broken_here setup inst r ≡ None)
+Decides setup inst r (decision.Act batch) = (first_lacking (holds_of setup r) (needs setup inst) ≡ None) × (batch.items ≡ item_of r (body.Act inst) ∷ []) × (broken_here setup inst r ≡ None)
 
 -- what it decides on a message: the items that are applied of it, and then what the own log has more once it was taken, so many of each kind
 pub record IsTaken (setup : Setup) (message : Message) (r : Replica) (taken : Taken) : Type 0 where

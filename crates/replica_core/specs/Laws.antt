@@ -1,14 +1,17 @@
--- Laws of runs: what a replica holds, and what it heeds.
+-- Laws of runs, and of requests.
 use Rattle.std.specs.Prelude.{◌≡◌, ℕ, ◌<◌, ◌≤◌, ◌^◌, List, length, Some, Contains}
 use Rattle.spec_model.specs.declared.plan.Setup.{Setup}
 use Rattle.spec_model.specs.declared.spec.Spec.{Spec}
+use Rattle.spec_model.specs.declared.clause.Broken.{Broken}
 use Rattle.spec_model.specs.declared.instance.Cell.{Cell}
+use Rattle.spec_model.specs.declared.instance.Inst.{Inst}
 use Rattle.spec_model.specs.declared.right.Right.TheVariants as right
 use Rattle.spec_model.specs.Bounds.{KeepsBounds}
 use Rattle.spec_model.specs.Fits.{IsWellFormed}
 use Rattle.spec_model.specs.Universe.{cells, first_value}
 use Rattle.run_model.specs.declared.message.Message.{Message}
 use Rattle.run_model.specs.declared.step.Ask.TheVariants as asks
+use Rattle.run_model.specs.declared.step.Outcome.TheVariants as outcomes
 use Rattle.run_model.specs.declared.step.StepEntry.{StepEntry}
 use Rattle.run_model.specs.Fitting.{MessageFits}
 use Rattle.run_model.specs.Locals.{Local, StandsIn}
@@ -17,8 +20,10 @@ use Rattle.run_model.specs.Rights.{held_count}
 use Rattle.run_model.specs.Runs.{Runs}
 use Rattle.run_model.specs.Steps.{Hears, links_of}
 use Rattle.run_model.specs.Worlds.{Sending, World, first_world, logs_of}
+use Rattle.replica_core.specs.Decisions.{Decides}
 use Rattle.replica_core.specs.Heeded.{IsHeededWhole}
-use Rattle.replica_core.specs.Replicas.{known_to, standing_of}
+use Rattle.replica_core.specs.Replicas.{HasAnswered, IsReplica, known_to, standing_of}
+use Rattle.replica_core.specs.declared.decision.Decision.TheVariants as decision
 use Rattle.replica_core.specs.declared.replica.Replica.{Replica}
 
 -- each cell begins within its bounds
@@ -38,3 +43,7 @@ MessagesAreHeeded = (setup : Setup) (entries : List StepEntry) (world : World) (
     → StandsIn world r.me (record { standing = standing_of stamp sendings r; known = known_to r }) → ((j : ℕ) → length (log_at (logs_of world) j) ≤ 4194304)
     → Hears (links_of world) r.me (asks.Take from (Some number)) (Some sent) → sent.message ≡ Some message → MessageFits setup.spec setup.replicas r.me message
     → IsHeededWhole setup r message
+
+-- a request whose effect would break a clause leaves the replica as it is
+abbrev pub BreaksChangeNothing : Type 0
+BreaksChangeNothing = (setup : Setup) (r : Replica) (inst : Inst) (broken : Broken) → IsReplica setup r.me r → Decides setup inst r (decision.Breaks broken) → HasAnswered setup inst r (outcomes.Breaks broken) r

@@ -1,19 +1,14 @@
 -- A replica that is made again from the batches that it committed.
-use Rattle.std.specs.Prelude.{◌≡◌, ℕ, ◌+◌, ◌≤◌, List, [], ◌∷◌, ◌++◌, length, replicate, slice_set}
+use Rattle.std.specs.Prelude.{◌≡◌, ℕ, ◌+◌, ◌≤◌, List, [], ◌∷◌, length, replicate}
 use Rattle.std.specs.List.{flat_map}
 use Rattle.spec_model.specs.declared.plan.Setup.{Setup}
 use Rattle.spec_model.specs.declared.log.LogItem.{LogItem}
 use Rattle.run_model.specs.declared.batch.Batch.{Batch}
-use Rattle.run_model.specs.Logs.{Logs, log_at}
 use Rattle.run_model.specs.Worlds.{no_cut}
+use Rattle.causal_store.specs.Agreeing.{with_all}
 use Rattle.replica_core.specs.Decisions.{IsDecided}
 use Rattle.replica_core.specs.Replicas.{IsReplica, known_to, own_log}
 use Rattle.replica_core.specs.declared.replica.Replica.{Replica}
-
--- the logs once each item was put at the end of its log
-abbrev pub with_all : List LogItem → Logs → Logs
-with_all [] logs = logs
-with_all (item ∷ items) logs = with_all items (slice_set logs item.origin (log_at logs item.origin ++ item ∷ []))
 
 -- the items of a batch were applied and logged again; what is wanted and was told is as it was
 pub record HasReplayed (setup : Setup) (items : List LogItem) (old new : Replica) : Type 0 where

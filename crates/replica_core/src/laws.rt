@@ -1,6 +1,6 @@
-//! Laws of runs, for callers to cite.
+//! Laws of runs and of requests, for callers to cite.
 
-ghost use Rattle.replica_core.specs.Laws.{FirstsKeepBounds, HoldsAreSmall, MessagesAreHeeded};
+ghost use Rattle.replica_core.specs.Laws.{BreaksChangeNothing, FirstsKeepBounds, HoldsAreSmall, MessagesAreHeeded};
 
 /// Each cell begins within its bounds.
 pub fn firsts_keep_bounds()
@@ -17,4 +17,9 @@ pub fn holds_are_small()
 /// 2^22 items each.
 pub fn messages_are_heeded()
     ensures { MessagesAreHeeded }
+{}
+
+/// A request whose effect would break a clause is answered by the replica as it is.
+pub fn breaks_change_nothing()
+    ensures { BreaksChangeNothing }
 {}

@@ -1,6 +1,6 @@
 //! What a replica answers to a request, and what it sends.
 
-ghost use Rattle.std.specs.Prelude.{◌≡◌, ◌≢◌, ◌<◌, ◌≤◌, ◌^◌, All, IfOk, OnOk, length, slice_index, slice_index_or, map, Contains, [], ◌∷◌};
+ghost use Rattle.std.specs.Prelude.{◌≡◌, ◌≢◌, ◌<◌, ◌≤◌, ◌^◌, All, IfOk, OnOk, length, slice_index, slice_index_or, map, Contains, None, [], ◌∷◌};
 ghost use Rattle.spec_model.specs.declared.plan.Setup.{Setup as SetupOf};
 ghost use Rattle.spec_model.specs.declared.instance.Inst.{Inst as InstOf};
 ghost use Rattle.spec_model.specs.declared.log.Body.TheVariants as body;
@@ -18,17 +18,18 @@ use crate::decision::Decision;
 use crate::replica::Replica;
 use crate::wanting::less;
 use causal_delivery::next_items;
-use effect_model::escrow_needs;
+use causal_store::StoreTruths;
+use effect_model::{breaks, escrow_needs};
 use ind_base::{List, NoMemory};
 use run_model::{Batch, Message};
 use spec_model::{
-    Amount, Body, Cell, Held, Inst, Lacking, Level, Need, Right, Setup, Want, WantAsk,
+    Amount, Body, Broken, Cell, Held, Inst, Lacking, Level, Need, Right, Setup, Want, WantAsk,
 };
 use std::alloc::Global;
 
 impl Replica {
     ghost use Rattle.replica_core.specs.Replicas.{HasAnswered, HasRoom, IsReplica, holds_of, item_of, known_to, own_log, standing_of};
-    ghost use Rattle.replica_core.specs.Decisions.{Decides, IsReadyFor};
+    ghost use Rattle.replica_core.specs.Decisions.{Decides, IsReadyFor, broken_here};
 
     /// The need of so many rights to lower a cell, if fewer are held.
     fn lacking_low(&self, setup: &Setup, cell: &Cell, count: u64) -> Option<Lacking>
@@ -98,8 +99,39 @@ impl Replica {
         Ok(Batch { items })
     }
 
-    /// What it answers to a request: an act where all that it needs is held, else that it is short of
-    /// the first need that isn't met. Nothing of it is done before it is committed or noted.
+    /// The first clause, and its first elements, that the effect would break in its state.
+    fn broken(&self, alloc: Global, setup: &Setup, inst: &Inst) -> Result<Option<Broken>, NoMemory>
+        requires well_formed { IsWellFormed setup.now.spec }
+        requires own { IsReplica setup.now self.now.me self.now }
+        requires fits { InstFits setup.now.spec inst.now }
+        ensures { IfOk result (λ broken. broken ≡ broken_here setup.now inst.now self.now) }
+    {
+        let state = StoreTruths {
+            spec: &setup.spec,
+            store: &self.store,
+        };
+        breaks(alloc, &setup.spec, &state, inst)
+    }
+
+    /// What it answers where no clause would break: an act where all that it needs is held, else
+    /// that it is short of the first need that isn't met.
+    fn act_or_short(&self, alloc: Global, setup: &Setup, inst: &Inst) -> Result<Decision, NoMemory>
+        requires well_formed { IsWellFormed setup.now.spec }
+        requires lower { HasNoUpper setup.now.spec }
+        requires own { IsReplica setup.now self.now.me self.now }
+        requires fits { InstFits setup.now.spec inst.now }
+        requires room { HasRoom 1 self.now }
+        ensures { IfOk result (λ decision. broken_here setup.now inst.now self.now ≡ None → Decides setup.now inst.now self.now decision) }
+    {
+        let needs = escrow_needs(alloc, &setup.spec, inst)?;
+        match self.first_lacking(setup, needs.as_slice()) {
+            Some(lacking) => Ok(Decision::Short(lacking)),
+            None => Ok(Decision::Act(self.act_of(alloc, inst)?)),
+        }
+    }
+
+    /// What it answers to a request: the first clause that the effect would break, else the first
+    /// need that isn't met, else an act. Nothing of it is done before it is committed or noted.
     pub fn request(&self, alloc: Global, setup: &Setup, inst: &Inst) -> Result<Decision, NoMemory>
         requires well_formed { IsWellFormed setup.now.spec }
         requires lower { HasNoUpper setup.now.spec }
@@ -108,10 +140,9 @@ impl Replica {
         requires room { HasRoom 1 self.now }
         ensures { IfOk result (λ decision. Decides setup.now inst.now self.now decision) }
     {
-        let needs = escrow_needs(alloc, &setup.spec, inst)?;
-        match self.first_lacking(setup, needs.as_slice()) {
-            Some(lacking) => Ok(Decision::Short(lacking)),
-            None => Ok(Decision::Act(self.act_of(alloc, inst)?)),
+        match self.broken(alloc, setup, inst)? {
+            Some(broken) => Ok(Decision::Breaks(broken)),
+            None => self.act_or_short(alloc, setup, inst),
         }
     }
 

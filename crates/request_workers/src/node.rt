@@ -17,7 +17,7 @@ ghost use Rattle.replica_core.specs.Replicas.{HasAnswered, HasRoom, HasTaken, Is
 ghost use Rattle.replica_core.specs.Tables.{HasNoUpper};
 
 use ind_base::{List, NoMemory};
-use replica_core::{Decision, Replica};
+use replica_core::{Decision, Replica, breaks_change_nothing};
 use run_model::{Ask, Batch, History, Message, Outcome, StepEntry, push_entry};
 use spec_model::{Inst, Setup};
 use std::alloc::Global;
@@ -44,7 +44,7 @@ fn act(setup: &Setup, replica: &mut Replica, batch: &Batch) -> Result<Outcome, N
     Ok(Outcome::Done { index })
 }
 
-/// Answers a request: what the replica decides is done or noted.
+/// Answers a request: what the replica decides is done or noted, and a broken clause is named.
 fn answer(
     alloc: Global,
     setup: &Setup,
@@ -59,7 +59,10 @@ fn answer(
     ensures { IfOk result (λ outcome. HasAnswered setup.now inst.now replica.old outcome replica.new) }
 {
     match replica.request(alloc, setup, inst)? {
-        Decision::Breaks(broken) => Ok(Outcome::Breaks(broken)),
+        Decision::Breaks(broken) => {
+            breaks_change_nothing();
+            Ok(Outcome::Breaks(broken))
+        }
         Decision::Short(lacking) => {
             replica.note(&lacking);
             Ok(Outcome::Short(lacking))

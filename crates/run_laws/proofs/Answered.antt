@@ -4,12 +4,14 @@ use Rattle.std.specs.Prelude.{slice_index_or, slice_set, Some, None, Option, ◌
 use Rattle.std.specs.List.{AllByRecursion}
 use Rattle.std.proofs.lemmas.List.{append-nil, length-append}
 use Rattle.spec_model.specs.declared.plan.Setup.{Setup}
+use Rattle.spec_model.specs.declared.clause.Broken.{Broken}
 use Rattle.spec_model.specs.declared.instance.Inst.{Inst}
 use Rattle.spec_model.specs.declared.right.Want.{Want}
 use Rattle.spec_model.specs.declared.right.Lacking.{Lacking}
 use Rattle.spec_model.specs.declared.log.Body.{Body}
 use Rattle.spec_model.specs.declared.log.Body.TheVariants as body
 use Rattle.spec_model.specs.declared.log.LogItem.{LogItem}
+use Rattle.spec_model.specs.Breaks.{broken_by}
 use Rattle.spec_model.specs.Needs.{needs}
 use Rattle.run_model.specs.declared.message.Message.{Message}
 use Rattle.run_model.specs.declared.step.Ask.{Ask}
@@ -19,7 +21,7 @@ use Rattle.run_model.specs.declared.step.Outcome.TheVariants as outcomes
 use Rattle.run_model.specs.Logs.{Logs}
 use Rattle.run_model.specs.Rights.{first_lacking}
 use Rattle.run_model.specs.Wants.{need_of, noted, piece_for, want_of}
-use Rattle.run_model.specs.Worlds.{Standing, Sending, logged, logged_all, holding, joined, sent_to}
+use Rattle.run_model.specs.Worlds.{Standing, Sending, logged, logged_all, holding, joined, sent_to, truths_seen}
 use Rattle.run_model.specs.Steps.{Requested, Takes, TakesSent, Answers, cut_after, accepts_of, given, answered, dropped, received, message_of}
 use Rattle.scenario_text.specs.Numbered.{sends_to}
 use Rattle.run_laws.proofs.Admitted.{admitted_some}
@@ -70,9 +72,10 @@ takes_some setup logs me message old =
     )
 
 -- an instance can be requested, which sends nothing
-requested_some : (me : ℕ) (inst : Inst) (lacking : Option Lacking) (old : Standing) → (outcome : Outcome) × (new : Standing) × Requested me inst lacking old outcome new × (new.sendings ≡ old.sendings)
-requested_some me inst None old = (outcomes.Done (length old.log), logged me (body.Act inst) old, (refl, refl), refl)
-requested_some me inst (Some lacking) old = (outcomes.Short lacking, record old { wants = noted old.wants (want_of lacking.need) }, (refl, refl), refl)
+requested_some : (me : ℕ) (inst : Inst) (broken : Option Broken) (lacking : Option Lacking) (old : Standing) → (outcome : Outcome) × (new : Standing) × Requested me inst broken lacking old outcome new × (new.sendings ≡ old.sendings)
+requested_some me inst (Some broken) lacking old = (outcomes.Breaks broken, old, (refl, refl), refl)
+requested_some me inst None None old = (outcomes.Done (length old.log), logged me (body.Act inst) old, (refl, refl), refl)
+requested_some me inst None (Some lacking) old = (outcomes.Short lacking, record old { wants = noted old.wants (want_of lacking.need) }, (refl, refl), refl)
 
 -- ---- what is sent
 
@@ -94,7 +97,7 @@ pub record IsAnswered (setup : Setup) (logs : Logs) (me : ℕ) (heard : Option S
 -- a request is answered
 pub does_some : (setup : Setup) (logs : Logs) (me stamp : ℕ) (inst : Inst) (old : Standing) → IsAnswered setup logs me None stamp (asks.Do inst) old
 does_some setup logs me stamp inst old =
-    let r = requested_some me inst (first_lacking (holding setup logs me old) (needs setup inst)) old in
+    let r = requested_some me inst (broken_by setup.spec (truths_seen setup logs old) inst) (first_lacking (holding setup logs me old) (needs setup inst)) old in
     record { applied = []; outcome = r.0; after = r.1; answers = (refl, r.2); more = []; is = r.3 ∙ sym (append-nil old.sendings); counted = λ to. refl; sent = tt }
 
 -- a list of one, or none

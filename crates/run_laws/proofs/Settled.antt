@@ -3,9 +3,11 @@ use Rattle.std.proofs.Common.{◌≡◌, ℕ, List, [], ◌∷◌, ◌++◌, len
 use Rattle.std.specs.Prelude.{slice_get, slice_set, Some, None, Option}
 use Rattle.std.proofs.lemmas.Option.{same_Some}
 use Rattle.spec_model.specs.declared.plan.Setup.{Setup}
+use Rattle.spec_model.specs.declared.clause.Broken.{Broken}
 use Rattle.spec_model.specs.declared.instance.Inst.{Inst}
 use Rattle.spec_model.specs.declared.right.Lacking.{Lacking}
 use Rattle.spec_model.specs.declared.log.LogItem.{LogItem}
+use Rattle.spec_model.specs.Breaks.{broken_by}
 use Rattle.spec_model.specs.Needs.{needs}
 use Rattle.run_model.specs.declared.message.Message.{Message}
 use Rattle.run_model.specs.declared.step.Ask.{Ask}
@@ -15,7 +17,7 @@ use Rattle.run_model.specs.declared.step.Outcome.TheVariants as outcomes
 use Rattle.run_model.specs.declared.step.StepEntry.{StepEntry}
 use Rattle.run_model.specs.Logs.{Logs, with_item}
 use Rattle.run_model.specs.Rights.{first_lacking}
-use Rattle.run_model.specs.Worlds.{Standing, Sending, World, logs_of, holding}
+use Rattle.run_model.specs.Worlds.{Standing, Sending, World, logs_of, holding, truths_seen}
 use Rattle.run_model.specs.Steps.{Requested, Takes, TakesSent, Answers, Steps, AreReady, IsStuck, AreAdmitted, cut_after, accepts_of, answered, Hears, links_of}
 use Rattle.run_model.specs.Runs.{WorldSteps}
 
@@ -50,9 +52,10 @@ admitted_one cut items a b h k = longest_one cut a b h.rest k.rest (sym h.prefix
 -- ---- what is answered
 
 -- a request is settled
-requested_one : (me : ℕ) (inst : Inst) (lacking : Option Lacking) (old : Standing) (o p : Outcome) (x y : Standing) → Requested me inst lacking old o x → Requested me inst lacking old p y → (o ≡ p) × (x ≡ y)
-requested_one me inst None old o p x y h k = (h.0 ∙ sym k.0, h.1 ∙ sym k.1)
-requested_one me inst (Some lacking) old o p x y h k = (h.0 ∙ sym k.0, h.1 ∙ sym k.1)
+requested_one : (me : ℕ) (inst : Inst) (broken : Option Broken) (lacking : Option Lacking) (old : Standing) (o p : Outcome) (x y : Standing) → Requested me inst broken lacking old o x → Requested me inst broken lacking old p y → (o ≡ p) × (x ≡ y)
+requested_one me inst (Some broken) lacking old o p x y h k = (h.0 ∙ sym k.0, h.1 ∙ sym k.1)
+requested_one me inst None None old o p x y h k = (h.0 ∙ sym k.0, h.1 ∙ sym k.1)
+requested_one me inst None (Some lacking) old o p x y h k = (h.0 ∙ sym k.0, h.1 ∙ sym k.1)
 
 -- a take is settled
 takes_one : (setup : Setup) (logs : Logs) (me : ℕ) (message : Message) (a b : List LogItem) (old : Standing) (o p : Outcome) (x y : Standing)
@@ -73,7 +76,7 @@ takes_sent_one setup logs me (Some message) a b old o p x y h k = takes_one setu
 -- an answer is settled by what is asked and what is in hand
 answers_one : (setup : Setup) (logs : Logs) (me : ℕ) (heard : Option Sending) (a b : List LogItem) (stamp : ℕ) (ask : Ask) (old : Standing) (o p : Outcome) (x y : Standing)
     → Answers setup logs me heard a stamp ask old o x → Answers setup logs me heard b stamp ask old p y → (o ≡ p) × (x ≡ y)
-answers_one setup logs me None a b stamp (asks.Do inst) old o p x y h k = requested_one me inst (first_lacking (holding setup logs me old) (needs setup inst)) old o p x y h.1 k.1
+answers_one setup logs me None a b stamp (asks.Do inst) old o p x y h k = requested_one me inst (broken_by setup.spec (truths_seen setup logs old) inst) (first_lacking (holding setup logs me old) (needs setup inst)) old o p x y h.1 k.1
 answers_one setup logs me None a b stamp (asks.Send to (Some number)) old o p x y h k = (h.1.outcome_is ∙ sym k.1.outcome_is, h.1.becomes ∙ sym k.1.becomes)
 answers_one setup logs me None a b stamp (asks.Send to None) old o p x y h k = absurd h
 answers_one setup logs me None a b stamp (asks.Take from number) old o p x y h k = absurd h

@@ -3,6 +3,7 @@ use Rattle.std.specs.Global.{Vec}
 use Rattle.std.proofs.lemmas.List.{length-map}
 use Rattle.spec_model.specs.declared.log.LogItem.{LogItem}
 use Rattle.causal_store.specs.Stores.{logs_in}
+use Rattle.causal_store.proofs.Agreed.{applied_more}
 use Rattle.causal_store.proofs.Stored.{first_room, has_room, log_there, one_more, pushed_on, room_left}
 use Rattle.causal_store.proofs.store.Store.apply.Goals as goal
 
@@ -30,6 +31,11 @@ returns-clause-own c =
     let lt : item.origin < length logs = omega (arith, c.requires.fits.origin, length-map logs (λ (l : Vec LogItem). l.items)) in
     let pushed = pushed_on logs item.origin c.index_mut.result.now c.push_within.new.log item (log_there logs item.origin c.index_mut.result.now lt c.index_mut.ensures.value) c.push_within.ensures.items in
     one_more c.args.spec.now (length (logs_in c.args.self.now)) c.args.self.now _ item c.requires.own c.requires.fits c.requires.next pushed c.set.ensures
+
+pub returns-clause-order : goal.returns-clause-order
+returns-clause-order c =
+    let n = length (logs_in c.args.self.now) in
+    λ items applied seen. applied_more c.args.spec.now n items c.args.item.now c.args.self.now _ applied (returns-clause-own c) c.requires.fits.origin c.requires.next seen (returns-clause-applied c)
 
 pub returns-clause-room : goal.returns-clause-room
 returns-clause-room c =

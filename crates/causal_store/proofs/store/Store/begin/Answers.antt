@@ -4,17 +4,28 @@ use Rattle.std.specs.List.{AllByRecursion}
 use Rattle.std.proofs.lemmas.List.{length-replicate}
 use Rattle.spec_model.specs.declared.log.LogItem.{LogItem}
 use Rattle.run_model.specs.Fitting.{ItemFits}
+use Rattle.causal_store.proofs.Agreed.{applied_none}
 use Rattle.causal_store.proofs.Stored.{no_counts, no_items_fit}
 use Rattle.causal_store.proofs.store.Store.begin.Goals as goal
+
+-- the logs are as many as there are replicas, and empty
+logs_are : (n i : ℕ) (logs : List (Vec LogItem)) → map (λ l. l.items) logs ≡ replicate i [] → i ≡ n → map (λ l. l.items) logs ≡ replicate n []
+logs_are n i logs is all = is ∙ ap (λ k. replicate k []) all
 
 pub returns-clause-own : goal.returns-clause-own
 returns-clause-own c =
     let n : ℕ = c.args.replicas in
     let all : c.loop-i._i ≡ n = omega (arith, c.loop-i-test.false, c.loop-i.auto._i-end) in
-    let logs : map (λ (l : Vec LogItem). l.items) c.loop-i.logs.items ≡ replicate n [] = c.loop-i.invariant.0 ∙ ap (λ k. replicate k []) all in
+    let logs = logs_are n c.loop-i._i c.loop-i.logs.items c.loop-i.invariant.0 all in
     λ spec. record {
       whole = ap length logs ∙ length-replicate n [];
       few = omega (arith, c.requires);
       counts = c.loop-i.invariant.1 ∙ ap (λ k. replicate k 0) all ∙ no_counts n ∙ sym (ap (map (λ (log : List LogItem). length log)) logs);
       fits = subst (AllByRecursion (AllByRecursion (ItemFits spec n))) (sym logs) (no_items_fit (ItemFits spec n) n);
     }
+
+pub returns-clause-applied : goal.returns-clause-applied
+returns-clause-applied c =
+    let n : ℕ = c.args.replicas in
+    let all : c.loop-i._i ≡ n = omega (arith, c.loop-i-test.false, c.loop-i.auto._i-end) in
+    λ spec. applied_none spec n _ (returns-clause-own c spec) (logs_are n c.loop-i._i c.loop-i.logs.items c.loop-i.invariant.0 all)

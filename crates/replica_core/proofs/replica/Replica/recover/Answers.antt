@@ -1,6 +1,6 @@
 use Rattle.std.proofs.Common.{[], List, replicate, ap, ◌∙◌, subst, arith}
 use Rattle.run_model.specs.declared.batch.Batch.{Batch}
-use Rattle.replica_core.specs.Recovered.{with_all}
+use Rattle.causal_store.specs.Agreeing.{with_all}
 use Rattle.replica_core.specs.Replicas.{IsReplica}
 use Rattle.replica_core.proofs.Changes.{own_again}
 use Rattle.replica_core.proofs.Replayed.{all_more, decided_next}

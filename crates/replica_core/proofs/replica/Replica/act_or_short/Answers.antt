@@ -9,7 +9,7 @@ use Rattle.run_model.specs.Rights.{first_lacking}
 use Rattle.replica_core.specs.Tables.{NeedFits}
 use Rattle.replica_core.specs.Replicas.{holds_of}
 use Rattle.replica_core.proofs.Needed.{lacking_fits, needs_fit}
-use Rattle.replica_core.proofs.replica.Replica.request.Goals as goal
+use Rattle.replica_core.proofs.replica.Replica.act_or_short.Goals as goal
 
 pub first_lacking-requires-clause-fits : goal.first_lacking-requires-clause-fits
 first_lacking-requires-clause-fits c =
@@ -27,11 +27,11 @@ returns-in-Some c =
     let is : c.as_slice.result.now ≡ needs = c.as_slice.ensures.value ∙ c.in_ok-needs.ensures.value in
     let few : AllByRecursion IsFew needs = subst (AllByRecursion IsFew) c.in_ok-needs.ensures.value c.in_ok-needs.ensures.few in
     let found : first_lacking holds needs ≡ Some c.in-Some.lacking = sym (ap (first_lacking holds) is) ∙ sym c.first_lacking.ensures ∙ c.in-Some.is in
-    (found, lacking_fits (NeedFits spec) holds needs c.in-Some.lacking (needs_fit spec c.args.inst.now c.requires.lower few) found)
+    λ whole. (found, lacking_fits (NeedFits spec) holds needs c.in-Some.lacking (needs_fit spec c.args.inst.now c.requires.lower few) found, whole)
 
 pub returns : goal.returns
 returns c =
     let holds = holds_of c.args.setup.now c.args.self.now in
     let needs : List Need = escrow_needs c.args.setup.now.spec c.args.inst.now in
     let is : c.as_slice.result.now ≡ needs = c.as_slice.ensures.value ∙ c.in_ok-needs.ensures.value in
-    (sym (ap (first_lacking holds) is) ∙ sym c.first_lacking.ensures ∙ c.in-None.is, c.in_ok-act_of-in-None.ensures)
+    λ whole. (sym (ap (first_lacking holds) is) ∙ sym c.first_lacking.ensures ∙ c.in-None.is, c.in_ok-act_of-in-None.ensures, whole)
