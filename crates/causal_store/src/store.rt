@@ -1,6 +1,6 @@
 //! The items that a replica has applied, and the state that they give.
 
-ghost use Rattle.std.specs.Prelude.{◌≡◌, ◌<◌, ◌≤◌, ◌+◌, ◌++◌, ◌∷◌, ◌+ℤ◌, ◌-ℤ◌, pos, [], ℕ, All, List, IfOk, OnOk, vec_capacity, length, replicate, slice_index, slice_set};
+ghost use Rattle.std.specs.Prelude.{◌≡◌, ◌<◌, ◌≤◌, ◌+◌, ◌++◌, ◌∷◌, ◌+ℤ◌, ◌-ℤ◌, ◌≤ℤ◌, ◌^◌, pos, [], ℕ, All, List, IfOk, OnOk, vec_capacity, length, replicate, slice_index, slice_set};
 ghost use Rattle.std.specs.List.{list_any};
 ghost use Rattle.spec_model.specs.declared.spec.Spec.{Spec};
 ghost use Rattle.spec_model.specs.declared.log.LogItem.{LogItem as ItemOf};
@@ -231,13 +231,16 @@ impl Store {
         }
     }
 
-    /// The value of a cell in the state of all acts that were applied.
+    /// The value of a cell in the state of all acts that were applied: at most 2^62 in size, since
+    /// no log is longer than so many acts can bear.
     pub fn value(&self, spec: &Specification, cell: &Cell) -> i64
         requires well_formed { IsWellFormed spec.now }
         requires own { IsStore spec.now (length (logs_in self.now)) self.now }
         requires short { IsShort self.now }
         requires known { cell.now.num < length spec.now.nums }
-        ensures { result ≡ value_of spec.now (items_in (cut_in self.now) (logs_in self.now)) cell.now }
+        ensures value { result ≡ value_of spec.now (items_in (cut_in self.now) (logs_in self.now)) cell.now }
+        ensures upper { result ≤ℤ pos (2 ^ 62) }
+        ensures lower { pos 0 ≤ℤ (result +ℤ pos (2 ^ 62)) }
     {
         let mut raised = 0;
         let mut lowered = 0;

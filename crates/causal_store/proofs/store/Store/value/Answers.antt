@@ -15,8 +15,8 @@ use Rattle.causal_store.proofs.store.Store.value.Goals as goal
 pub value_from-requires-clause-first : goal.value_from-requires-clause-first
 value_from-requires-clause-first c = first_small c.args.spec.now c.args.cell.now c.requires.well_formed.nums c.requires.known
 
-pub returns : goal.returns
-returns c =
+pub returns-clause-value : goal.returns-clause-value
+returns-clause-value c =
     let spec = c.args.spec.now in
     let cell = c.args.cell.now in
     let logs : Logs = logs_in c.args.self.now in

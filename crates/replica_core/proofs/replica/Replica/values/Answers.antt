@@ -22,5 +22,5 @@ loop-place-preserved c =
     let v : ℤ = to_z w64 (of_z w64 c.value-value.result) in
     let small : SFits w64 c.value-value.result = search rules in
     let one : CellValue = record { cell = c.cell_at-cell.result; value = v } in
-    let is : one ≡ f c.cell_at-cell.result = ap (λ (v : ℤ). let w : CellValue = record { cell = c.cell_at-cell.result; value = v } in w) (to_z-of_z w64 c.value-value.result small ∙ c.value-value.ensures) in
+    let is : one ≡ f c.cell_at-cell.result = ap (λ (v : ℤ). let w : CellValue = record { cell = c.cell_at-cell.result; value = v } in w) (to_z-of_z w64 c.value-value.result small ∙ c.value-value.ensures.value) in
     c.in_ok-push.ensures.ok ∙ ap (λ (l : List CellValue). l ++ one ∷ []) c.loop-place.invariant ∙ ap (λ w. map f (take c.loop-place.place (cells spec)) ++ w ∷ []) is ∙ sym (map_at f (cells spec) c.loop-place.place c.cell_at-cell.result c.cell_at-cell.ensures)
