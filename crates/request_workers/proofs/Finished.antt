@@ -128,6 +128,9 @@ legal setup schedule nodes histories sound order finals firsts formed some (link
       world = h.world;
       whole = long;
       own = record {
+        replica = λ i history is.
+            let m = mapped (history_of setup) nodes i history is in
+            ap (λ (k : History). k.replica) m.2 ∙ (h.each i m.0 m.1).own.me_is;
         own = λ i history is.
             let m = mapped (history_of setup) nodes i history is in
             subst (λ (k : History). AreOf i k.entries) (sym m.2) (subst (AreOf i) (sym (h.each i m.0 m.1).entries_are) (own_entries i h.entries));

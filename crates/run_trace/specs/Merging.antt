@@ -11,6 +11,7 @@ AreOf me entries = AllByRecursion (λ e. e.replica ≡ me) entries
 
 -- the history at each place is that of the replica with this number: its own entries, in order
 pub record AreHistories (histories : List History) : Type 0 where
+  pub replica : (i : ℕ) (h : History) → slice_get histories i ≡ Some h → h.replica ≡ i
   pub own : (i : ℕ) (h : History) → slice_get histories i ≡ Some h → AreOf i h.entries
   pub in_order : (i : ℕ) (h : History) → slice_get histories i ≡ Some h → InOrder h.entries
 
