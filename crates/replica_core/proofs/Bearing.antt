@@ -192,7 +192,7 @@ bearable setup entries world me from l cell part well few some runs stands short
     omega (arith, same, one, flight, balance, first_small spec cell well, all_created spec cell items well, count, replicas, kept.whole, few)
 
 -- a cell of which an item that fits gives some is of the universe
-gives_of_cell : (setup : Setup) (r : Replica) (before : List LogItem) (item : LogItem) (cell : Cell) → BodyFits setup.spec item.body → held_after setup r (before ++ item ∷ []) cell ≢ held_after setup r before cell → Contains (cells setup.spec) cell
+gives_of_cell : (setup : Setup) (r : Replica) (before : List LogItem) (item : LogItem) (cell : Cell) → BodyFits setup.spec setup.replicas item.body → held_after setup r (before ++ item ∷ []) cell ≢ held_after setup r before cell → Contains (cells setup.spec) cell
 gives_of_cell setup r before item cell fits differs = by_body item.body refl fits
   where
     nothing : gives_to r.me (right.Low cell) item.body ≡ 0 → ⊥
@@ -200,7 +200,7 @@ gives_of_cell setup r before item cell fits differs = by_body item.body refl fit
 
     of_right : (to : ℕ) (s : Right) (piece : Piece) → item.body ≡ body.Out to s piece → RightFits setup.spec s → Contains (cells setup.spec) cell
     of_right to (right.Low a) piece is known = elim (cases_Bool (same_cell a cell)) [
-      | inl same ↦ subst (Contains (cells setup.spec)) (same_cell_is a cell same) known
+      | inl same ↦ subst (Contains (cells setup.spec)) (same_cell_is a cell same) known.0
       | inr other ↦ absurd (nothing (ap (gives_to r.me (right.Low cell)) is ∙ gives_no_other r.me to a cell piece other))
     ]
     of_right to (right.High a) piece is known = absurd known
@@ -208,10 +208,10 @@ gives_of_cell setup r before item cell fits differs = by_body item.body refl fit
     of_right to (right.Entry a args n) piece is known = absurd known
     of_right to (right.Part a key) piece is known = absurd known
 
-    by_body : (b : Body) → item.body ≡ b → BodyFits setup.spec b → Contains (cells setup.spec) cell
+    by_body : (b : Body) → item.body ≡ b → BodyFits setup.spec setup.replicas b → Contains (cells setup.spec) cell
     by_body (body.Act inst) is fit = absurd (nothing (ap (gives_to r.me (right.Low cell)) is))
     by_body (body.Accept origin index) is fit = absurd (nothing (ap (gives_to r.me (right.Low cell)) is))
-    by_body (body.Out to s piece) is fit = of_right to s piece is fit.0
+    by_body (body.Out to s piece) is fit = of_right to s piece is fit.1
 
 -- so a message is heeded whole
 pub messages_heeded : MessagesAreHeeded

@@ -155,7 +155,7 @@ accepts_next setup message r heard learned taken front accepts outs h admits lea
     let all : AllByRecursion (λ x. IsKnown known me (body.Accept x.origin x.index)) front = each_known (slice_index (cut_in r.store) message.from) front part.row (subst (λ (l : Logs). AllByRecursion (λ x. item_at l x.origin x.index ≡ Some x) front) (sym logs) placed) in
     let mine : learned.me ≡ me = ap (λ (s : Replica). s.me) learns.kept ∙ ap (λ (s : Replica). s.me) admits.heard in
     let stands : standing_of 0 [] learned ≡ start_of message r front = learned_stands setup message r heard learned front 0 [] admits learns in
-    let there : AreNext setup known me (start_of message r front) (items_for me (accepts_of me front) (start_of message r front)) = free_next setup known me (accepts_of me front) (start_of message r front) (accepts_free setup known me front all) in
+    let there : AreNext setup known me (start_of message r front) (items_for me (accepts_of me front) (start_of message r front)) = free_next setup known me (accepts_of me front) (start_of message r front) (accepts_free setup known me front part.fits all) in
     subst (λ i. AreNext setup known i (standing_of 0 [] learned) accepts) (sym mine) (subst (λ (p : Standing). AreNext setup known me p accepts) (sym stands) (subst (AreNext setup known me (start_of message r front)) (sym parts.accepts_are) there))
   where
     each_known : (at : ℕ) (items : List LogItem) → AreInRow message.from at items → AllByRecursion (λ x. item_at (known_to learned) x.origin x.index ≡ Some x) items → AllByRecursion (λ x. IsKnown (known_to learned) r.me (body.Accept x.origin x.index)) items
@@ -186,7 +186,7 @@ outs_same setup message r mid left taken front accepts outs h drops =
 
 pub outs_next : (setup : Setup) (message : Message) (r mid left : Replica) (taken : Taken) (front accepts outs : List LogItem) → Splits setup message r taken front accepts outs → Drops setup message r mid left front → AreNext setup (known_to left) left.me (standing_of 0 [] left) outs
 outs_next setup message r mid left taken front accepts outs h drops =
-    subst (AreNext setup (known_to left) left.me (standing_of 0 [] left)) (sym (outs_same setup message r mid left taken front accepts outs h drops)) (gives_next setup (known_to left) left.me message.from message.wants (standing_of 0 [] left) h.fits.wants)
+    subst (AreNext setup (known_to left) left.me (standing_of 0 [] left)) (sym (outs_same setup message r mid left taken front accepts outs h drops)) (gives_next setup (known_to left) left.me message.from message.wants (standing_of 0 [] left) h.fits.sender h.fits.wants)
 
 pub outs_short : (setup : Setup) (message : Message) (r mid left : Replica) (taken : Taken) (front accepts outs : List LogItem) → Splits setup message r taken front accepts outs → Drops setup message r mid left front → length outs ≤ 8
 outs_short setup message r mid left taken front accepts outs h drops =

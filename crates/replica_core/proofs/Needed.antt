@@ -1,9 +1,9 @@
 -- What a request needs, and what is wanted once it is short.
-use Rattle.std.proofs.Common.{◌≡◌, ℕ, zero, suc, ◌-◌, ◌≤◌, Bool, true, false, cond, List, [], ◌∷◌, ◌++◌, length, drop, refl, sym, ap, subst, arith}
+use Rattle.std.proofs.Common.{◌≡◌, inl, inr, ◌∙◌, ℕ, zero, suc, ◌-◌, ◌≤◌, Bool, true, false, cond, List, [], ◌∷◌, ◌++◌, length, drop, refl, sym, ap, subst, arith}
 use Rattle.std.specs.Prelude.{Some, None, Contains, is_some, nat_lt, slice_set}
 use Rattle.std.proofs.lemmas.List.{length-append}
 use Rattle.std.specs.List.{AllByRecursion, flat_map, list_any}
-use Rattle.std.proofs.lemmas.Bool.{cond_both, cond-false}
+use Rattle.std.proofs.lemmas.Bool.{cond_both, cond-false, cases_Bool}
 use Rattle.std.proofs.lemmas.List.{length_push, length-map}
 use Rattle.spec_model.specs.declared.plan.Setup.{Setup}
 use Rattle.spec_model.specs.declared.spec.Spec.{Spec}
@@ -17,8 +17,8 @@ use Rattle.spec_model.specs.declared.right.Want.{Want}
 use Rattle.spec_model.specs.declared.right.Lacking.{Lacking}
 use Rattle.spec_model.specs.declared.right.Amount.TheVariants as amount
 use Rattle.spec_model.specs.declared.log.Body.TheVariants as body
-use Rattle.spec_model.specs.Universe.{cells, upper_bound}
-use Rattle.spec_model.specs.Changes.{net_rise}
+use Rattle.spec_model.specs.Universe.{lower_bound, cells, upper_bound}
+use Rattle.spec_model.specs.Changes.{net_fall, net_rise}
 use Rattle.spec_model.specs.Needs.{escrow_need, escrow_needs, spends}
 use Rattle.effect_model.specs.Amounts.{IsFew}
 use Rattle.run_model.specs.declared.step.Outcome.{Outcome}
@@ -49,14 +49,20 @@ none_raised spec inst cell lower = cond-false (is_some (upper_bound spec cell)) 
 
 -- the need of a right to lower a cell of the universe fits
 low_fits : (spec : Spec) (inst : Inst) (cell : Cell) → Contains (cells spec) cell → AllByRecursion IsFew (escrow_need spec inst (right.Low cell)) → AllByRecursion (NeedFits spec) (escrow_need spec inst (right.Low cell))
-low_fits spec inst cell among few = by_test (nat_lt 0 n) few
+low_fits spec inst cell among few = by_test (nat_lt 0 n) refl few
   where
     n : ℕ
     n = spends spec inst (right.Low cell)
 
-    by_test : (b : Bool) → AllByRecursion IsFew (cond b (low_need cell n ∷ []) []) → AllByRecursion (NeedFits spec) (cond b (low_need cell n ∷ []) [])
-    by_test true h = ((cell, n, among, refl, (let up = h.0.1 in omega (arith, up))), tt)
-    by_test false h = tt
+    bounded : nat_lt 0 n ≡ true → is_some (lower_bound spec cell) ≡ true
+    bounded some = elim (cases_Bool (is_some (lower_bound spec cell))) [
+      | inl is ↦ is
+      | inr none ↦ absurd (let wrong : false ≡ true = sym (ap (nat_lt 0) (cond-false (is_some (lower_bound spec cell)) (net_fall spec inst cell) 0 none)) ∙ some in cc)
+    ]
+
+    by_test : (b : Bool) → nat_lt 0 n ≡ b → AllByRecursion IsFew (cond b (low_need cell n ∷ []) []) → AllByRecursion (NeedFits spec) (cond b (low_need cell n ∷ []) [])
+    by_test true is h = ((cell, n, among, refl, (let up = h.0.1 in omega (arith, up)), bounded is), tt)
+    by_test false is h = tt
 
 -- there is no need of a right to raise one
 high_none : (spec : Spec) (inst : Inst) (cell : Cell) → HasNoUpper spec → escrow_need spec inst (right.High cell) ≡ []
@@ -97,7 +103,7 @@ lacking_fits P h (need ∷ needs) l all is = by_test (is_met h need) (λ later. 
 -- ---- wants
 
 want_fits : (spec : Spec) (need : Need) → NeedFits spec need → WantFits spec (want_of need)
-want_fits spec need h = subst (λ m. WantFits spec (want_of m)) (sym h.3) (record { of = h.2; much = h.4 })
+want_fits spec need h = subst (λ m. WantFits spec (want_of m)) (sym h.3) (record { of = (h.2, h.5); much = h.4 })
 
 replaced_fit : (P : Want → Type 0) (wants : List Want) (want : Want) → AllByRecursion P wants → P want → AllByRecursion P (replaced wants want)
 replaced_fit P [] want all h = tt

@@ -38,7 +38,7 @@ use Rattle.replica_core.proofs.Received.{cut_long, each_in_log}
 -- ---- one item
 
 -- the next item of a replica fits the store
-pub next_fits : (spec : Spec) (r : Replica) (b : Body) (item : LogItem) → IsStore spec (length (known_to r)) r.store → r.me < length (known_to r) → item ≡ item_of r b → BodyFits spec b → HasRoom 1 r → ItemFits spec (length (known_to r)) item
+pub next_fits : (spec : Spec) (r : Replica) (b : Body) (item : LogItem) → IsStore spec (length (known_to r)) r.store → r.me < length (known_to r) → item ≡ item_of r b → BodyFits spec (length (known_to r)) b → HasRoom 1 r → ItemFits spec (length (known_to r)) item
 next_fits spec r b item store place is fits room = subst (ItemFits spec (length (known_to r))) (sym is) (record {
   origin = place;
   small = room;
@@ -96,7 +96,7 @@ items_long me (b ∷ bodies) p = let rest = items_long me bodies (logged me b p)
 
 -- what a replica may log: it loses nothing, and accepts what is known
 abbrev pub IsFree : Setup → Logs → ℕ → Body → Type 0
-IsFree setup logs me b = BodyFits setup.spec b × IsKnown logs me b × ((r : Right) → body_loses setup.spec r b ≡ 0)
+IsFree setup logs me b = BodyFits setup.spec setup.replicas b × IsKnown logs me b × ((r : Right) → body_loses setup.spec r b ≡ 0)
 
 pub free_next : (setup : Setup) (logs : Logs) (me : ℕ) (bodies : List Body) (p : Standing) → AllByRecursion (IsFree setup logs me) bodies → AreNext setup logs me p (items_for me bodies p)
 free_next setup logs me [] p all = tt
@@ -106,16 +106,16 @@ free_next setup logs me (b ∷ bodies) p all = (
 )
 
 -- the Accepts of applied items lose nothing
-pub accepts_free : (setup : Setup) (logs : Logs) (me : ℕ) (items : List LogItem) → AllByRecursion (λ x. IsKnown logs me (body.Accept x.origin x.index)) items → AllByRecursion (IsFree setup logs me) (accepts_of me items)
-accepts_free setup logs me [] all = tt
-accepts_free setup logs me (x ∷ items) all = each_append (IsFree setup logs me) (accept_of me x.origin x.index x.body) (accepts_of me items) (of_body x.body) (accepts_free setup logs me items all.1)
+pub accepts_free : (setup : Setup) (logs : Logs) (me : ℕ) (items : List LogItem) → AllByRecursion (ItemFits setup.spec setup.replicas) items → AllByRecursion (λ x. IsKnown logs me (body.Accept x.origin x.index)) items → AllByRecursion (IsFree setup logs me) (accepts_of me items)
+accepts_free setup logs me [] fit all = tt
+accepts_free setup logs me (x ∷ items) fit all = each_append (IsFree setup logs me) (accept_of me x.origin x.index x.body) (accepts_of me items) (of_body x.body) (accepts_free setup logs me items fit.1 all.1)
   where
     of_body : (b : Body) → AllByRecursion (IsFree setup logs me) (accept_of me x.origin x.index b)
     of_body (body.Act inst) = tt
     of_body (body.Out to r given) = by_test (to == me)
       where
         by_test : (t : Bool) → AllByRecursion (IsFree setup logs me) (cond t (body.Accept x.origin x.index ∷ []) [])
-        by_test true = ((tt, all.0, λ r. refl), tt)
+        by_test true = (((fit.0.origin, fit.0.small), all.0, λ r. refl), tt)
         by_test false = tt
     of_body (body.Accept from at) = tt
 
@@ -159,13 +159,13 @@ gives_few setup logs me to (w ∷ wants) p =
 
 -- a piece that is given of a right that is held
 pub record Gives (setup : Setup) (held_low : Cell → ℕ) (b : Body) : Type 0 where
-  pub fits : BodyFits setup.spec b
+  pub fits : BodyFits setup.spec setup.replicas b
   pub out : (logs : Logs) (me : ℕ) → IsKnown logs me b
   pub enough : (cell : Cell) → Contains (cells setup.spec) cell → body_loses setup.spec (right.Low cell) b ≤ held_low cell
 
 -- at most half of a count, rounded up
-count_given : (setup : Setup) (held_of_low : Cell → ℕ) (to : ℕ) (cell : Cell) (n : ℕ) → Contains (cells setup.spec) cell → n < 2 ^ 64 → AllByRecursion (Gives setup held_of_low) (given (piece_for (held.Count (held_of_low cell)) (asked.Count n)) to (right.Low cell))
-count_given setup held_of_low to cell n among small = by_test (g == 0)
+count_given : (setup : Setup) (held_of_low : Cell → ℕ) (to : ℕ) (cell : Cell) (n : ℕ) → to < setup.replicas → RightFits setup.spec (right.Low cell) → n < 2 ^ 64 → AllByRecursion (Gives setup held_of_low) (given (piece_for (held.Count (held_of_low cell)) (asked.Count n)) to (right.Low cell))
+count_given setup held_of_low to cell n peer among small = by_test (g == 0)
   where
     g : ℕ
     g = min n ((held_of_low cell + 1) / 2)
@@ -181,7 +181,7 @@ count_given setup held_of_low to cell n among small = by_test (g == 0)
     by_test true = tt
     by_test false = (
       record {
-        fits = (among, (let less : g < 2 ^ 64 = omega (arith, small) in less));
+        fits = (peer, among, (let less : g < 2 ^ 64 = omega (arith, small) in less));
         out = λ logs me. tt;
         enough = λ d known. loses d known (same_right (right.Low cell) (right.Low d)) refl;
       },
@@ -189,14 +189,14 @@ count_given setup held_of_low to cell n among small = by_test (g == 0)
     )
 
 -- of a right to lower a cell
-given_fits : (setup : Setup) (holds : Right → ℕ) (to : ℕ) (r : Right) (ask : WantAsk) → RightFits setup.spec r → AskFits ask → AllByRecursion (Gives setup (λ cell. holds (right.Low cell))) (given (piece_for (held.Count (holds r)) ask) to r)
-given_fits setup holds to (right.Low cell) (asked.Count n) right_fits ask_fits = count_given setup (λ c. holds (right.Low c)) to cell n right_fits ask_fits
-given_fits setup holds to (right.Low cell) (asked.Level l) right_fits ask_fits = absurd ask_fits
-given_fits setup holds to (right.Low cell) (asked.Points span) right_fits ask_fits = absurd ask_fits
-given_fits setup holds to (right.High cell) ask right_fits ask_fits = absurd right_fits
-given_fits setup holds to (right.Lock lock key) ask right_fits ask_fits = absurd right_fits
-given_fits setup holds to (right.Entry clause args literal) ask right_fits ask_fits = absurd right_fits
-given_fits setup holds to (right.Part part key) ask right_fits ask_fits = absurd right_fits
+given_fits : (setup : Setup) (holds : Right → ℕ) (to : ℕ) (r : Right) (ask : WantAsk) → to < setup.replicas → RightFits setup.spec r → AskFits ask → AllByRecursion (Gives setup (λ cell. holds (right.Low cell))) (given (piece_for (held.Count (holds r)) ask) to r)
+given_fits setup holds to (right.Low cell) (asked.Count n) peer right_fits ask_fits = count_given setup (λ c. holds (right.Low c)) to cell n peer right_fits ask_fits
+given_fits setup holds to (right.Low cell) (asked.Level l) peer right_fits ask_fits = absurd ask_fits
+given_fits setup holds to (right.Low cell) (asked.Points span) peer right_fits ask_fits = absurd ask_fits
+given_fits setup holds to (right.High cell) ask peer right_fits ask_fits = absurd right_fits
+given_fits setup holds to (right.Lock lock key) ask peer right_fits ask_fits = absurd right_fits
+given_fits setup holds to (right.Entry clause args literal) ask peer right_fits ask_fits = absurd right_fits
+given_fits setup holds to (right.Part part key) ask peer right_fits ask_fits = absurd right_fits
 
 -- in front of others that are next
 piece_next : (setup : Setup) (logs : Logs) (me to : ℕ) (r : Right) (o : Option Piece) (bodies : List Body) (p : Standing) → AllByRecursion (Gives setup (λ cell. held_count setup logs me p.log (right.Low cell))) (given o to r)
@@ -204,12 +204,12 @@ piece_next : (setup : Setup) (logs : Logs) (me to : ℕ) (r : Right) (o : Option
 piece_next setup logs me to r None bodies p all rest = rest
 piece_next setup logs me to r (Some pc) bodies p all rest = (record { is = refl; fits = all.0.fits; known = all.0.out logs me; enough = all.0.enough }, rest)
 
-pub gives_next : (setup : Setup) (logs : Logs) (me to : ℕ) (wants : List Want) (p : Standing) → AllByRecursion (WantFits setup.spec) wants → AreNext setup logs me p (items_for me (gives_for setup logs me to wants p) p)
-gives_next setup logs me to [] p all = tt
-gives_next setup logs me to (w ∷ wants) p all =
+pub gives_next : (setup : Setup) (logs : Logs) (me to : ℕ) (wants : List Want) (p : Standing) → to < setup.replicas → AllByRecursion (WantFits setup.spec) wants → AreNext setup logs me p (items_for me (gives_for setup logs me to wants p) p)
+gives_next setup logs me to [] p peer all = tt
+gives_next setup logs me to (w ∷ wants) p peer all =
     let o : Option Piece = piece_for (holding setup logs me p (need_of w)) w.ask in
     let q : Standing = logged_all me (given o to w.right) p in
-    piece_next setup logs me to w.right o (gives_for setup logs me to wants q) p (given_fits setup (held_count setup logs me p.log) to w.right w.ask all.0.of all.0.much) (gives_next setup logs me to wants q all.1)
+    piece_next setup logs me to w.right o (gives_for setup logs me to wants q) p (given_fits setup (held_count setup logs me p.log) to w.right w.ask peer all.0.of all.0.much) (gives_next setup logs me to wants q peer all.1)
 
 -- ---- an item by its body
 
@@ -226,5 +226,5 @@ item_there [] k x lt is = absurd (omega (arith, lt))
 item_there (y ∷ log) zero x lt is = ap (λ (z : LogItem). Some z) (sym is)
 item_there (y ∷ log) (suc k) x lt is = item_there log k x (omega (arith, lt)) is
 
-pub item_fits : (setup : Setup) (r : Replica) (from index : ℕ) (x : LogItem) → IsReplica setup r.me r → item_at (known_to r) from index ≡ Some x → BodyFits setup.spec x.body
+pub item_fits : (setup : Setup) (r : Replica) (from index : ℕ) (x : LogItem) → IsReplica setup r.me r → item_at (known_to r) from index ≡ Some x → BodyFits setup.spec setup.replicas x.body
 item_fits setup r from index x own there = (each_at (ItemFits setup.spec setup.replicas) (log_at (known_to r) from) index x (each_in_log (ItemFits setup.spec setup.replicas) (known_to r) from own.store.fits) there).body

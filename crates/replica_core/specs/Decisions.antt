@@ -66,7 +66,7 @@ pub record Splits (setup : Setup) (message : Message) (r : Replica) (taken : Tak
 -- an item that replica me may log next, by the logs that it knows: it has all that was seen in its past, and what it loses is held
 pub record IsNext (setup : Setup) (logs : Logs) (me : ℕ) (p : Standing) (item : LogItem) : Type 0 where
   pub is : item ≡ record { origin = me; index = length p.log; deps = p.cut; body = item.body }
-  pub fits : BodyFits setup.spec item.body
+  pub fits : BodyFits setup.spec setup.replicas item.body
   pub known : IsKnown logs me item.body
   pub enough : (cell : Cell) → Contains (cells setup.spec) cell → body_loses setup.spec (right.Low cell) item.body ≤ held_count setup logs me p.log (right.Low cell)
 

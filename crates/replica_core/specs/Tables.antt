@@ -1,5 +1,5 @@
 -- A table of rights: how many to lower each cell, by the cell's place in the universe.
-use Rattle.std.specs.Prelude.{◌≡◌, ℕ, ◌+◌, ◌*◌, ◌<◌, ◌≤◌, ◌^◌, List, length, is_some, if◌then◌else◌, slice_get, slice_index, Some, None, Contains}
+use Rattle.std.specs.Prelude.{◌≡◌, true, ℕ, ◌+◌, ◌*◌, ◌<◌, ◌≤◌, ◌^◌, List, length, is_some, if◌then◌else◌, slice_get, slice_index, Some, None, Contains}
 use Rattle.spec_model.specs.declared.plan.Setup.{Setup}
 use Rattle.spec_model.specs.declared.spec.Spec.{Spec}
 use Rattle.spec_model.specs.declared.instance.Cell.{Cell}
@@ -67,6 +67,6 @@ HasNoUpper spec = (cell : Cell) → upper_bound spec cell ≡ None
 abbrev pub low_need : Cell → ℕ → Need
 low_need cell n = record { right = right.Low cell; amount = amount.Count n }
 
--- a need of rights to lower a cell of the universe
+-- a need of rights to lower a cell of the universe, which has a lower bound
 abbrev pub NeedFits : Spec → Need → Type 0
-NeedFits spec need = (cell : Cell) × (n : ℕ) × Contains (cells spec) cell × (need ≡ low_need cell n) × (n < 2 ^ 64)
+NeedFits spec need = (cell : Cell) × (n : ℕ) × Contains (cells spec) cell × (need ≡ low_need cell n) × (n < 2 ^ 64) × (is_some (lower_bound spec cell) ≡ true)

@@ -4,6 +4,7 @@ ghost use Rattle.std.specs.Prelude.{◌≡◌, ◌≢◌, ◌+◌, ◌<◌, ◌�
 ghost use Rattle.run_model.specs.Fitting.{AskFits, BodyFits, ItemFits, PieceFits, RightFits, WantFits};
 ghost use Rattle.replica_core.specs.Heeded.{AreFitting, IsAddressed};
 
+use crate::spending::is_bounded;
 use effect_model::{cell_fits, inst_fits, universe_is_all};
 use ind_base::{List, NoMemory};
 use run_model::Message;
@@ -21,13 +22,13 @@ pub(crate) fn is_addressed(setup: &Setup, me: u32, message: &Message) -> bool
         && message.cut.len() == setup.replicas as usize
 }
 
-/// Whether it is a right to lower a cell of the universe.
+/// Whether it is a right to lower a cell of the universe, which has a lower bound.
 fn right_fits(spec: &Spec, right: &Right) -> bool
     ensures { IsTrue result ↔ RightFits spec.now right.now }
 {
     universe_is_all();
     match right {
-        Right::Low(cell) => cell_fits(spec, cell),
+        Right::Low(cell) => cell_fits(spec, cell) && is_bounded(spec, cell.num),
         _ => false,
     }
 }
@@ -52,13 +53,15 @@ fn ask_fits(ask: &WantAsk) -> bool
     }
 }
 
-fn body_fits(spec: &Spec, body: &Body) -> bool
-    ensures { IsTrue result ↔ BodyFits spec.now body.now }
+fn body_fits(spec: &Spec, replicas: u32, body: &Body) -> bool
+    ensures { IsTrue result ↔ BodyFits spec.now replicas body.now }
 {
     match body {
         Body::Act(inst) => inst_fits(spec, inst),
-        Body::Out { right, piece, .. } => right_fits(spec, right) && piece_fits(piece),
-        Body::Accept { .. } => true,
+        Body::Out { to, right, piece } => {
+            *to < replicas && right_fits(spec, right) && piece_fits(piece)
+        }
+        Body::Accept { from, index } => *from < replicas && *index < u32::MAX,
     }
 }
 
@@ -69,7 +72,7 @@ pub(crate) fn item_fits(spec: &Spec, replicas: u32, item: &LogItem) -> bool
     item.origin < replicas
         && item.index < u32::MAX
         && item.deps.len() == replicas as usize
-        && body_fits(spec, &item.body)
+        && body_fits(spec, replicas, &item.body)
 }
 
 /// Whether a want fits the specification.

@@ -38,7 +38,7 @@ fn gain_piece(counts: &mut List<u128>, spec: &Spec, right: &Right, piece: &Piece
 /// Adds what a body gives.
 pub(crate) fn gain_out(counts: &mut List<u128>, spec: &Spec, body: &Body)
     requires well_formed { IsWellFormed spec.now }
-    requires fits { BodyFits spec.now body.now }
+    requires fits { (replicas : ℕ) × BodyFits spec.now replicas body.now }
     requires whole { length counts.old ≡ length (cells spec.now) }
     requires small { AreUpTo (2 ^ 100) counts.old }
     ensures raises { RaisesBy spec.now (λ c. rights.out_gives (low.Low c) body.now) counts.old counts.new }

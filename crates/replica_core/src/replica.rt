@@ -123,7 +123,7 @@ impl Replica {
     fn append(&mut self, spec: &Spec, item: &LogItem)
         requires store { IsStore spec.now (length (known_to self.old)) self.old.store }
         requires place { self.old.me < length (known_to self.old) }
-        requires next { (b : BodyOf) × (item.now ≡ item_of self.old b) × BodyFits spec.now b }
+        requires next { (b : BodyOf) × (item.now ≡ item_of self.old b) × BodyFits spec.now (length (known_to self.old)) b }
         requires room { HasRoom 1 self.old }
         requires ready { (items : List ItemOf) × IsReadyFor self.old (item.now ∷ items) }
         ensures kept { self.new ≡ record self.old { store = self.new.store } }
@@ -155,6 +155,7 @@ impl Replica {
         requires well_formed { IsWellFormed setup.now.spec }
         requires own { IsReplica setup.now self.old.me self.old }
         requires next { item.now ≡ item_of self.old (body.Accept from index) }
+        requires fits { BodyFits setup.now.spec setup.now.replicas (body.Accept from index) }
         requires known { IsKnown (known_to self.old) self.old.me (body.Accept from index) }
         requires room { HasRoom 1 self.old }
         requires ready { (items : List ItemOf) × IsReadyFor self.old (item.now ∷ items) }
@@ -171,7 +172,7 @@ impl Replica {
         requires well_formed { IsWellFormed setup.now.spec }
         requires own { IsReplica setup.now self.old.me self.old }
         requires next { item.now ≡ item_of self.old (body.Out to right.now piece.now) }
-        requires fits { BodyFits setup.now.spec (body.Out to right.now piece.now) }
+        requires fits { BodyFits setup.now.spec setup.now.replicas (body.Out to right.now piece.now) }
         requires held { (cell : CellOf) → Contains (cells setup.now.spec) cell → out_gives (low.Low cell) (body.Out to right.now piece.now) ≤ held_count setup.now (known_to self.old) self.old.me (own_log self.old) (low.Low cell) }
         requires room { HasRoom 1 self.old }
         requires ready { (items : List ItemOf) × IsReadyFor self.old (item.now ∷ items) }

@@ -1,11 +1,19 @@
-use Rattle.std.proofs.Common.{sym, subst}
+use Rattle.std.proofs.Common.{◌≡◌, false, true, sym, subst, ◌∙◌}
 use Rattle.run_model.specs.Fitting.{RightFits}
 use Rattle.replica_core.proofs.fitting.right_fits.Goals as goal
 
-pub returns-in-Low : goal.returns-in-Low
-returns-in-Low c =
+pub returns-then-cell_fits : goal.returns-then-cell_fits
+returns-then-cell_fits c =
     let spec = c.args.spec.now in
     let all = (c.universe_is_all.ensures spec).1 c.in-Low.cell in (
-      λ fits. subst (RightFits spec) (sym c.in-Low.is) (all.those_that_fit.1 (c.cell_fits.ensures.0 fits)),
-      λ fits. c.cell_fits.ensures.1 (all.those_that_fit.0 (subst (RightFits spec) c.in-Low.is fits)),
+      λ bounded. subst (RightFits spec) (sym c.in-Low.is) (all.those_that_fit.1 (c.cell_fits.ensures.0 c.if-cell_fits.true), sym c.is_bounded.ensures ∙ bounded),
+      λ fits. c.is_bounded.ensures ∙ (subst (RightFits spec) c.in-Low.is fits).1,
+    )
+
+pub returns-else-cell_fits : goal.returns-else-cell_fits
+returns-else-cell_fits c =
+    let spec = c.args.spec.now in
+    let all = (c.universe_is_all.ensures spec).1 c.in-Low.cell in (
+      λ wrong. absurd cc,
+      λ fits. absurd (let wrong : false ≡ true = sym c.if-cell_fits.false ∙ c.cell_fits.ensures.1 (all.those_that_fit.0 (subst (RightFits spec) c.in-Low.is fits).0) in cc),
     )

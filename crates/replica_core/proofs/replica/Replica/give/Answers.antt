@@ -1,7 +1,8 @@
-use Rattle.std.proofs.Common.{◌+◌, ◌*◌, ◌^◌, ◌++◌, ◌∷◌, [], length, ap, ◌∙◌, arith}
+use Rattle.std.proofs.Common.{◌+◌, ◌*◌, ◌^◌, ◌++◌, ◌∷◌, [], length, sym, ap, subst, ◌∙◌, arith}
 use Rattle.std.specs.Prelude.{slice_set}
 use Rattle.spec_model.specs.declared.log.Body.TheVariants as body
 use Rattle.spec_model.specs.declared.log.LogItem.{LogItem}
+use Rattle.run_model.specs.Fitting.{BodyFits}
 use Rattle.replica_core.specs.Replicas.{known_to, own_log}
 use Rattle.replica_core.proofs.Counts.{in_universe}
 use Rattle.replica_core.proofs.Logged.{logs_one}
@@ -14,7 +15,7 @@ lose_piece-requires-clause-held c = λ i cell is.
     omega (arith, enough, held)
 
 pub append-requires-clause-next : goal.append-requires-clause-next
-append-requires-clause-next c = (body.Out c.args.to c.args.right.now c.args.piece.now, c.requires.next, c.requires.fits)
+append-requires-clause-next c = (body.Out c.args.to c.args.right.now c.args.piece.now, c.requires.next, subst (λ n. BodyFits c.args.setup.now.spec n (body.Out c.args.to c.args.right.now c.args.piece.now)) (sym c.requires.own.store.whole) c.requires.fits)
 
 pub returns-clause-logged : goal.returns-clause-logged
 returns-clause-logged c =
