@@ -1,5 +1,5 @@
 -- What was committed is logged again, batch by batch.
-use Rattle.std.proofs.Common.{◌≡◌, ◌≢◌, inl, inr, ℕ, zero, suc, ◌+◌, ◌<◌, ◌≤◌, List, [], ◌∷◌, ◌++◌, length, get_or, map, set, take, drop, refl, sym, ap, subst, ◌∙◌, arith, length-append, length-set}
+use Rattle.std.proofs.Common.{◌≡◌, ◌≢◌, inl, inr, ℕ, zero, suc, ◌+◌, ◌<◌, ◌≤◌, List, [], ◌∷◌, ◌++◌, length, get_or, map, replicate, set, take, drop, refl, sym, ap, subst, ◌∙◌, arith, length-append, length-set}
 use Rattle.std.specs.Prelude.{All, Some, slice_get, slice_index, slice_set}
 use Rattle.std.specs.List.{AllByRecursion, flat_map}
 use Rattle.std.proofs.lemmas.List.{append_assoc, append-nil, get_or-set_same, get_or-set_other}
@@ -104,6 +104,7 @@ pub record Replays (setup : Setup) (r : Replica) (items front own : List LogItem
   pub others : AllByRecursion (λ i. i.origin ≢ r.me) front
   pub mine : AllByRecursion (λ i. i.origin ≡ r.me) own
   pub few : length own ≤ 24
+  pub few_learned : length front ≤ 16
   pub can : CanLearn setup.spec r front
   pub applied : (learned : Replica) → HasLearned setup.spec front r learned → Applied setup r learned front own
 
@@ -116,6 +117,7 @@ act_replays setup r inst batch own fits decides =
       others = tt;
       mine = subst (AllByRecursion (λ (i : LogItem). i.origin ≡ r.me)) (sym decides.1) (refl, tt);
       few = omega (arith, ap length decides.1);
+      few_learned = omega arith;
       can = record { from = r.me; store = subst (λ n. IsStore setup.spec n r.store) (sym own.store.whole) own.store; place = place; row = tt; fits = tt };
       applied = λ learned h.
           let same : known_to learned ≡ known = h.logs r.me tt place ∙ sym (with_all_of r.me [] known tt place) in
@@ -174,6 +176,7 @@ take_replays setup message r items front own fits admitted is =
       others = each_weaker (λ (i : LogItem). i.origin ≡ from) (λ (i : LogItem). i.origin ≢ me) (λ i h same. fits.other (sym h ∙ same)) front origin;
       mine = each_append (λ (i : LogItem). i.origin ≡ me) (items_for me bodies start) (items_for me gives before) (own_origin me bodies start) (own_origin me gives before);
       few = omega (arith, length-append (items_for me bodies start) (items_for me gives before), items_long me bodies start, items_long me gives before, short, part.few, few, fits.few_wants);
+      few_learned = part.few;
       can = can_learn setup me r message front own fits.sender part;
       applied = λ learned h.
           let learns : Learns setup me from front r learned = record { own = own; other = fits.other; kept = h.kept; store = subst (λ n. IsStore setup.spec n learned.store) own.store.whole h.store; logs = h.logs from row place } in
@@ -200,6 +203,7 @@ nothing_replays setup r items own none =
       others = tt;
       mine = tt;
       few = omega arith;
+      few_learned = omega arith;
       can = record { from = r.me; store = subst (λ n. IsStore setup.spec n r.store) (sym own.store.whole) own.store; place = place; row = tt; fits = tt };
       applied = λ learned h.
           let same : known_to learned ≡ known = h.logs r.me tt place ∙ sym (with_all_of r.me [] known tt place) in
@@ -224,6 +228,39 @@ decided_replays setup r batch own (inr (message, taken, takes, is)) = elim (heed
       (front, own_of setup heeded r front, subst (λ (b : Batch). Replays setup r b.items front (own_of setup heeded r front)) is (take_replays setup heeded r items front own fits halves.0 halves.1))
   | inr none ↦ ([], [], nothing_replays setup r batch.items own (ap (λ (b : Batch). b.items) (sym is) ∙ none))
 ]
+
+-- it is short
+pub decided_short : (setup : Setup) (r : Replica) (batch : Batch) → IsReplica setup r.me r → IsDecided setup r batch → length batch.items ≤ 40
+decided_short setup r batch own decided =
+    let halves = decided_replays setup r batch own decided in
+    omega (arith, ap length halves.2.items_are, length-append halves.0 halves.1, halves.2.few, halves.2.few_learned)
+
+-- ---- how long logs are
+
+-- no log has grown by more than all items
+pub with_all_long : (items : List LogItem) (logs : Logs) (j : ℕ) → length (log_at (with_all items logs) j) ≤ length (log_at logs j) + length items
+with_all_long [] logs j = omega arith
+with_all_long (x ∷ items) logs j =
+    let next : List LogItem = log_at logs x.origin ++ x ∷ [] in
+    let rest = with_all_long items (slice_set logs x.origin next) j in
+    let one = set_long logs x.origin next (length (log_at logs x.origin) + 1) j (omega (arith, length-append (log_at logs x.origin) (x ∷ []))) refl in
+    omega (arith, rest, one)
+  where
+    set_long : (logs : Logs) (o : ℕ) (log : List LogItem) (n j : ℕ) → length log ≤ n → n ≡ length (log_at logs o) + 1 → length (log_at (slice_set logs o log) j) ≤ length (log_at logs j) + 1
+    set_long [] o log n j long is = omega arith
+    set_long (l ∷ logs) zero log n zero long is = omega (arith, long, is)
+    set_long (l ∷ logs) zero log n (suc j) long is = omega arith
+    set_long (l ∷ logs) (suc o) log n zero long is = omega arith
+    set_long (l ∷ logs) (suc o) log n (suc j) long is = set_long logs o log n j long is
+
+pub none_long : (n j : ℕ) → length (log_at (replicate n []) j) ≤ 0
+none_long zero j = omega arith
+none_long (suc n) zero = omega arith
+none_long (suc n) (suc j) = none_long n j
+
+pub logs_short : (n : ℕ) (logs : Logs) → ((j : ℕ) → length (log_at logs j) ≤ n) → AllByRecursion (λ log. length log ≤ n) logs
+logs_short n [] h = tt
+logs_short n (log ∷ logs) h = (h 0, logs_short n logs (λ j. h (suc j)))
 
 -- ---- what a replica is once it has replayed a batch
 

@@ -4,6 +4,7 @@ ghost use Rattle.std.specs.Prelude.{◌≡◌, ◌≢◌, ◌<◌, ◌≤◌, �
 ghost use Rattle.spec_model.specs.declared.log.LogItem.{LogItem as ItemOf};
 ghost use Rattle.spec_model.specs.Fits.{IsWellFormed};
 ghost use Rattle.run_model.specs.declared.batch.Batch.{Batch as BatchOf};
+ghost use Rattle.causal_store.specs.Stores.{IsShort};
 
 use crate::replica::Replica;
 use ind_base::NoMemory;
@@ -59,7 +60,8 @@ impl Replica {
     }
 
     /// The replica that has committed these batches, one after the other. It wants nothing, and was
-    /// told nothing.
+    /// told nothing. Since they are at most 100,000, its logs are short enough for its values to be
+    /// at most 2^62 in size.
     pub fn recover(
         alloc: Global,
         setup: &Setup,
@@ -71,7 +73,8 @@ impl Replica {
         requires few { setup.now.replicas ≤ 16 }
         requires few_batches { length batches.now ≤ 100000 }
         requires committed { AreCommitted setup.now me batches.now }
-        ensures { IfOk result (IsRecovered setup.now me batches.now) }
+        ensures recovered { IfOk result (IsRecovered setup.now me batches.now) }
+        ensures short { IfOk result (λ r. IsShort r.store) }
     {
         let mut replica = Replica::begin(alloc, setup, me)?;
         for batch in batches {

@@ -1,9 +1,11 @@
-use Rattle.std.proofs.Common.{[], List, replicate, ap, ◌∙◌, subst, arith}
+use Rattle.std.proofs.Common.{◌≤◌, [], List, length, replicate, ap, ◌∙◌, subst, arith}
 use Rattle.run_model.specs.declared.batch.Batch.{Batch}
 use Rattle.causal_store.specs.Agreeing.{with_all}
 use Rattle.replica_core.specs.Replicas.{IsReplica}
 use Rattle.replica_core.proofs.Changes.{own_again}
-use Rattle.replica_core.proofs.Replayed.{all_more, decided_next}
+use Rattle.run_model.specs.Logs.{Logs, log_at}
+use Rattle.replica_core.specs.Replicas.{known_to}
+use Rattle.replica_core.proofs.Replayed.{all_more, decided_next, decided_short, logs_short, with_all_long}
 use Rattle.replica_core.proofs.replica.Replica.recover.Goals as goal
 
 pub replay_ready-requires-clause-own : goal.replay_ready-requires-clause-own
@@ -31,4 +33,12 @@ loop-batch-preserved c =
       told = h.told ∙ c.loop-batch.invariant.told;
       rest = rest.1 c.replay_ready.new.self h;
       short = omega (arith, c.loop-batch.invariant.short, h.grown);
+      each = λ j.
+          let few = decided_short setup old x (own_again setup c.args.me old c.loop-batch.invariant.own) rest.0 in
+          let was = c.loop-batch.invariant.each j in
+          let more = with_all_long x.items (known_to old) j in
+          omega (arith, few, was, more, ap (λ (l : Logs). length (log_at l j)) h.knows);
     }
+
+pub returns-clause-short : goal.returns-clause-short
+returns-clause-short c = logs_short 4194304 (known_to c.loop-batch.replica) (λ j. omega (arith, c.loop-batch.invariant.each j, c.loop-batch.auto.batch-index-end, c.requires.few_batches))

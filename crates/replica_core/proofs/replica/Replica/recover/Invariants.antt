@@ -1,5 +1,6 @@
-use Rattle.std.specs.Prelude.{◌≡◌, ◌≤◌, ◌*◌, [], drop, length, replicate, take}
+use Rattle.std.specs.Prelude.{◌≡◌, ℕ, ◌≤◌, ◌*◌, [], drop, length, replicate, take}
 use Rattle.std.specs.List.{flat_map}
+use Rattle.run_model.specs.Logs.{log_at}
 use Rattle.run_model.specs.Worlds.{no_cut}
 use Rattle.replica_core.specs.Recovered.{AreDecided}
 use Rattle.causal_store.specs.Agreeing.{with_all}
@@ -15,4 +16,5 @@ invariant-loop-batch l = record {
   told : l.replica.told ≡ replicate l.setup.replicas (no_cut l.setup.replicas);
   rest : AreDecided l.setup l.replica (drop l.batch-index l.batches);
   short : length (own_log l.replica) ≤ l.batch-index * 24;
+  each : (j : ℕ) → length (log_at (known_to l.replica) j) ≤ l.batch-index * 40;
 }
