@@ -1,0 +1,13 @@
+//! Tests of stores and replicas over a specification that is read.
+#![tactic(auto)]
+
+#[cfg(test)]
+mod decision_tests;
+#[cfg(test)]
+mod replicas;
+#[cfg(test)]
+mod shop;
+#[cfg(test)]
+mod store_tests;
+#[cfg(test)]
+mod stores;
