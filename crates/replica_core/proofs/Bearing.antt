@@ -43,7 +43,7 @@ use Rattle.replica_core.specs.declared.replica.Replica.{Replica}
 use Rattle.replica_core.proofs.Holding.{all_created, few_items, first_keeps_bounds, first_small, term_small}
 use Rattle.replica_core.proofs.Lists.{take_at}
 use Rattle.replica_core.proofs.Logged.{count_at}
-use Rattle.replica_core.proofs.Looking.{given_more, gives_no_other, heeded_whole, nothing_given}
+use Rattle.replica_core.proofs.Looking.{given_more, gives_no_other, heeded_whole, heeds_itself, nothing_given}
 
 -- ---- sums
 
@@ -215,13 +215,13 @@ gives_of_cell setup r before item cell fits differs = by_body item.body refl fit
 
 -- so a message is heeded whole
 pub messages_heeded : MessagesAreHeeded
-messages_heeded setup entries world r stamp sendings from number sent message well few some runs stands short hears is fits heeded heeds =
+messages_heeded setup entries world r stamp sendings from number sent message well few some runs stands short hears is fits =
     let kept = kept_from_first setup entries world runs in
     let named = hears.1 ∙ sym hears.2 in
     let f = heard_from setup.replicas world from number r.me sent kept named in
     let what : IsSentTo from f.0.log sent.to (Some message) = subst (λ m. IsSentTo from f.0.log sent.to m) is f.2 in
     let part : IsPart (log_at (logs_of world) from) message.items = subst (λ (l : List LogItem). IsPart l message.items) (sym (logs_there world from f.0 f.1)) what.1 in
-    heeded_whole setup r message heeded fits (λ k item there. can k item there part) heeds
+    (heeds_itself setup r message fits (λ k item there. can k item there part), λ heeded heeds. heeded_whole setup r message heeded fits (λ k item there. can k item there part) heeds)
   where
     front_part : (log : List LogItem) (k : ℕ) (item : LogItem) → slice_get message.items k ≡ Some item → IsPart log message.items → IsPart log (take k message.items ++ item ∷ [])
     front_part log k item there part =

@@ -232,7 +232,28 @@ heeds_like setup a b message heeded same me (inr (astray, is)) = inr (λ address
 
 -- ---- what is heeded whole
 
--- a message of which all that wasn't seen can be accepted is heeded whole
+fits_all : (spec : Spec) (wants : List Want) → AllByRecursion (WantFits spec) wants → AreFitting spec wants wants
+fits_all spec [] all = refl
+fits_all spec (want ∷ wants) all = inl (all.0, wants, refl, fits_all spec wants all.1)
+
+-- a message of which all that wasn't seen can be accepted is itself heeded
+pub heeds_itself : (setup : Setup) (r : Replica) (message : Message) → MessageFits setup.spec setup.replicas r.me message → ((k : ℕ) (item : LogItem) → slice_get message.items k ≡ Some item → CanAccept setup r (take k message.items) item)
+    → Heeds setup r message message
+heeds_itself setup r message fits can = inl (
+  record { sender = fits.sender; other = fits.other; receiver = fits.receiver; cut = fits.cut },
+  record {
+    items = record {
+      rest = [];
+      front = take_all 16 message.items fits.few_items ∙ sym (append-nil message.items);
+      may = record { first = fits.first; row = fits.row; fits = fits.items; accepted = can };
+      longest = λ item behind none may. absurd cc;
+    };
+    wants = subst (λ (l : List Want). AreFitting setup.spec l message.wants) (sym (take_all 8 message.wants fits.few_wants)) (fits_all setup.spec message.wants fits.wants);
+    all_else = refl;
+  },
+)
+
+-- and nothing else of it
 pub heeded_whole : (setup : Setup) (r : Replica) (message heeded : Message) → MessageFits setup.spec setup.replicas r.me message → ((k : ℕ) (item : LogItem) → slice_get message.items k ≡ Some item → CanAccept setup r (take k message.items) item)
     → Heeds setup r message heeded → heeded ≡ message
 heeded_whole setup r message heeded fits can (inr (astray, is)) = absurd (astray (record { sender = fits.sender; other = fits.other; receiver = fits.receiver; cut = fits.cut }))

@@ -1,4 +1,4 @@
--- What a replica heeds of a message that may be any: in a run that is all of it.
+-- What a replica heeds of a message that may be any: in a run that is all of it. A cell's value needs no guard: no act changes it by more than 16 * 10 ^ 9, and no log of a replica has more than 2 ^ 22 items.
 use Rattle.std.specs.Prelude.{◌≡◌, ◌≢◌, ◌⊎◌, ℕ, ◌+◌, ◌<◌, ◌≤◌, ◌^◌, List, [], ◌∷◌, ◌++◌, length, take, sum_by, slice_get, slice_index, Some}
 use Rattle.std.specs.List.{AllByRecursion}
 use Rattle.spec_model.specs.declared.plan.Setup.{Setup}
@@ -54,7 +54,7 @@ pub record MayFollow (setup : Setup) (r : Replica) (from index : ℕ) (before : 
   pub is : IsItem from index item
   pub accepted : CanAccept setup r before item
 
--- items of this sender that replica r may apply: in a row in its log, each of which fits the setup and can be accepted
+-- items of this sender, seen or not, that replica r may apply: in a row in its log, each of which fits the setup and can be accepted
 pub record MayApply (setup : Setup) (r : Replica) (from : ℕ) (items : List LogItem) : Type 0 where
   pub first : ℕ
   pub row : AreInRow from first items
@@ -85,12 +85,12 @@ pub record IsPartOf (setup : Setup) (r : Replica) (message heeded : Message) : T
 abbrev pub silent : ℕ → Message → Message
 silent replicas message = record message { cut = no_cut replicas; items = []; wants = [] }
 
--- what replica r heeds of a message, as a message of its own: of one that isn't addressed to it nothing
+-- what replica r heeds of a message, written as a message: of one that isn't addressed to it nothing
 abbrev pub Heeds : Setup → Replica → Message → Message → Type 0
 Heeds setup r message heeded =
     (IsAddressed setup r.me message × IsPartOf setup r message heeded)
     ⊎ ((IsAddressed setup r.me message → ⊥) × (heeded ≡ silent setup.replicas message))
 
--- replica r heeds the message whole
+-- replica r heeds the message whole, and nothing else of it
 abbrev pub IsHeededWhole : Setup → Replica → Message → Type 0
-IsHeededWhole setup r message = (heeded : Message) → Heeds setup r message heeded → heeded ≡ message
+IsHeededWhole setup r message = Heeds setup r message message × ((heeded : Message) → Heeds setup r message heeded → heeded ≡ message)

@@ -27,6 +27,6 @@ returns c =
     let taken = c.in_ok-taken.taken in
     let same = c.ready.ensures.same in
     let decided : TakesHeeded setup c.args.replica.now message taken = c.in_ok-taken.ensures in
-    let whole = c.requires.whole decided.heeded decided.heeds in
+    let whole = c.requires.whole.1 decided.heeded decided.heeds in
     let done = c.commit_take.ensures decided.heeded (same.heeds message decided.heeded decided.heeds) (same.taken decided.heeded taken decided.takes) in
     same.took message _ c.commit_take.new.self (subst (λ (m : Message). HasTaken setup m c.ready.new.self (outcomes.Took message.number taken.applied taken.accepted taken.gave) c.commit_take.new.self) whole done)
