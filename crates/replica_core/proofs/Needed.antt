@@ -30,6 +30,7 @@ use Rattle.run_model.specs.Steps.{Requested, Requests}
 use Rattle.run_model.specs.Wants.{behind, is_on, noted, replaced, want_of}
 use Rattle.run_model.specs.Fitting.{WantFits}
 use Rattle.run_model.proofs.Lists.{each_append, each_weaker}
+use Rattle.causal_store.specs.Stores.{IsStore}
 use Rattle.replica_core.specs.Tables.{HasNoUpper, NeedFits, low_need}
 use Rattle.replica_core.specs.Replicas.{HasAnswered, HasLogged, IsReplica, holds_of, item_of, known_to, own_log, standing_of}
 use Rattle.replica_core.specs.Decisions.{broken_here}
@@ -154,6 +155,10 @@ heard_replica setup me old new own h = subst (IsReplica setup me) (sym h.is) (re
 })
 
 -- ---- requests
+
+-- what it applied is a store, by the logs that it knows
+pub store_whole : (setup : Setup) (r : Replica) → IsReplica setup r.me r → IsStore setup.spec (length (known_to r)) r.store
+store_whole setup r own = subst (λ n. IsStore setup.spec n r.store) (sym own.store.whole) own.store
 
 -- where no clause would break, what is needed decides
 unbroken : (setup : Setup) (inst : Inst) (old new : Replica) (outcome : Outcome) (stamp : ℕ) (sendings : List Sending) → broken_here setup inst old ≡ None

@@ -100,6 +100,7 @@ impl Replica {
     }
 
     /// The first clause, and its first elements, that the effect would break in its state.
+    #[tactic(auto, using(crate::proofs::Needed::store_whole))]
     fn broken(&self, alloc: Global, setup: &Setup, inst: &Inst) -> Result<Option<Broken>, NoMemory>
         requires well_formed { IsWellFormed setup.now.spec }
         requires own { IsReplica setup.now self.now.me self.now }
