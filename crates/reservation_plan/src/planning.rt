@@ -18,7 +18,7 @@ ghost use Rattle.spec_model.specs.Stable.{IsStable};
 use crate::analysed::{Analysed, DeriveError};
 use crate::drafting::Draft;
 use certificate_check::Certificate;
-use ground_clauses::case_count;
+use ground_clauses::{Queries, case_count};
 use ind_base::{List, NoMemory};
 use spec_model::{Pair, Plan, Spec};
 use std::alloc::Global;
@@ -60,8 +60,9 @@ fn draft_all(alloc: Global, spec: &Spec) -> Result<Draft, DeriveError>
 {
     let pairs = pairs_of(alloc, spec)?;
     let mut draft = Draft::none(alloc);
+    let mut queries = Queries::new(alloc);
     for pair in pairs.as_slice() {
-        draft.add_pair(alloc, spec, *pair)?;
+        draft.add_pair(alloc, spec, *pair, &mut queries)?;
     }
     Ok(draft)
 }
