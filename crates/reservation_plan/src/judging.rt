@@ -16,7 +16,8 @@ use ind_base::{List as Items, NoMemory};
 use spec_model::{Pair, Spec};
 use std::alloc::Global;
 
-/// The most steps of a derivation in a certificate.
+/// The most steps of a derivation in a certificate. No law rules out more: how many clauses the
+/// solver learns has no useful bound.
 const MOST_STEPS: usize = 4294967294;
 
 /// What is found of a case: that it is conflicting, by a model where it is about a clause, or a
@@ -114,6 +115,14 @@ impl Judgements {
         Ok(())
     }
 
+    /// Whether a conflicting case ends the analysis, whatever was found before: the author declares
+    /// its operations free.
+    fn refuses(&self, spec: &Spec, case: &Case) -> bool
+        ensures { result ≡ ending.is_declared_free spec.now case.now.a case.now.b }
+    {
+        is_declared_free(spec, case.a, case.b)
+    }
+
     /// Judges a case behind the others.
     fn judge<'a>(
         &mut self,
@@ -133,7 +142,7 @@ impl Judgements {
                 Ok(())
             }
             Finding::Conflicts(model) => {
-                if is_declared_free(spec, case.a, case.b) {
+                if self.refuses(spec, case) {
                     return Err(DeriveError::Rejected { case: *case, model });
                 }
                 self.add_conflict(alloc, case)?;
