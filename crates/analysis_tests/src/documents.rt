@@ -6,7 +6,7 @@ ghost use Rattle.spec_model.specs.Fits.{IsWellFormed};
 use crate::derivations::refutes;
 use clause_solver::SolveError;
 use conflict_pairs::{Decided, decide};
-use ground_clauses::{cases, query};
+use ground_clauses::{Queries, cases, query};
 use ind_base::List;
 use line_text::ParseError;
 use rejection_text::put_rejection;
@@ -172,6 +172,28 @@ pub(crate) fn decided(alloc: Global, spec: &Spec, a: u32, b: u32) -> Result<(u64
         }
     }
     Ok((models, refuted))
+}
+
+/// How many cases a pair has, and of how many the query that is made in the room of the last one is
+/// that which is made anew.
+pub(crate) fn agreeing(alloc: Global, spec: &Spec, a: u32, b: u32) -> Result<(u64, u64), SolveError>
+    requires well_formed { IsWellFormed spec.now }
+    requires known_a { a < length spec.now.ops }
+    requires known_b { b < length spec.now.ops }
+{
+    let mut all = 0u64;
+    let mut same = 0u64;
+    let mut queries = Queries::new(alloc);
+    let mut left = cases(alloc, spec, a, b)?;
+    'going: while let Some(case) = left.next() {
+        let fresh = query(alloc, spec, &case)?;
+        let again = queries.make(alloc, spec, &case)?;
+        all = all.saturating_add(1);
+        if *again == fresh {
+            same = same.saturating_add(1);
+        }
+    }
+    Ok((all, same))
 }
 
 /// The text of the first conflicting case of a pair; none, where there is no such case.

@@ -4,7 +4,8 @@ ghost use Rattle.ground_clauses.specs.Derivations.{SpeaksOf};
 
 use crate::derivations::refutes;
 use crate::documents::{
-    APART, BLIND, CHAINS, CLUB, CUP, LATER, ROOMS, SPAN, STAY, WIDE, decided, rejection_of, spec_of,
+    APART, BLIND, CHAINS, CLUB, CUP, LATER, ROOMS, SPAN, STAY, WIDE, agreeing, decided,
+    rejection_of, spec_of,
 };
 use crate::samples::{drawn, is_whole, least_by_trial, pigeonhole};
 use clause_solver::{Answer, SolveError, solve};
@@ -122,6 +123,21 @@ fn enrolling_conflicts_with_taking_off_the_lists(rt: HostRuntime) -> Result<(), 
         let (models, _) = decided(rt.alloc(), &spec, a, b)?;
         assert!(rt; (models > 0) == conflicts, "{a} and {b}");
     }
+    Ok(())
+}
+
+#[test]
+fn queries_in_one_room_are_those_made_anew(rt: HostRuntime) -> Result<(), Fail> {
+    let spec = spec_of(rt.alloc(), &CUP)?;
+    assert!(rt; spec.ops.len() == 3);
+    for (a, b) in [(0, 0), (0, 1), (0, 2), (1, 1)] {
+        let (all, same) = agreeing(rt.alloc(), &spec, a, b)?;
+        assert!(rt; all > 0 && same == all, "{a} and {b}");
+    }
+    let spec = spec_of(rt.alloc(), &ROOMS)?;
+    assert!(rt; spec.ops.len() == 1);
+    let (all, same) = agreeing(rt.alloc(), &spec, 0, 0)?;
+    assert!(rt; all > 1 && same == all);
     Ok(())
 }
 

@@ -17,17 +17,18 @@ use crate::certificate::{CertLine, Certificate};
 use crate::separation::{lowest_lock, lowest_part};
 use crate::steps::derivation_flaw;
 use crate::verdict::{Verdict, Why};
-use ground_clauses::{Case, Cases, Derivation, Target, cases, query};
+use ground_clauses::{Case, Cases, Derivation, Queries, Target, cases};
 use ind_base::{List as Items, NoMemory};
 use spec_model::{Plan, Spec};
 use std::alloc::Global;
 
 /// Why a derivation doesn't refute the case's query, if it doesn't.
-fn refutation_flaw(
+fn refutation_flaw<'a>(
     alloc: Global,
-    spec: &Spec,
+    spec: &'a Spec,
     case: &Case,
     derivation: &Derivation,
+    queries: &mut Queries<'a>,
 ) -> Result<Option<Why>, NoMemory>
     requires well_formed { IsWellFormed spec.now }
     requires fits { CaseFits spec.now case.now }
@@ -36,7 +37,7 @@ fn refutation_flaw(
 {
     match case.target {
         Target::Clause(_) => {
-            let cnf = query(alloc, spec, case)?;
+            let cnf = queries.make(alloc, spec, case)?;
             derivation_flaw(alloc, cnf.clauses.as_slice(), derivation.steps.as_slice())
         }
         Target::Locked(_) => Ok(Some(Why::NotSeparated)),
@@ -61,12 +62,13 @@ fn is_at(found: Option<usize>, place: u32) -> bool
 }
 
 /// Why a line isn't the one that the case asks for, if it isn't.
-fn flaw(
+fn flaw<'a>(
     alloc: Global,
-    spec: &Spec,
+    spec: &'a Spec,
     plan: &Plan,
     case: &Case,
     line: &CertLine,
+    queries: &mut Queries<'a>,
 ) -> Result<Option<Why>, NoMemory>
     requires well_formed { IsWellFormed spec.now }
     requires fits { CaseFits spec.now case.now }
@@ -82,7 +84,7 @@ fn flaw(
             if lock.is_some() || part.is_some() {
                 Ok(Some(Why::NotSeparated))
             } else {
-                refutation_flaw(alloc, spec, case, derivation)
+                refutation_flaw(alloc, spec, case, derivation, queries)
             }
         }
     }
@@ -97,13 +99,14 @@ enum Walk {
 
 /// Checks the line at a place against a case.
 #[tactic(auto, using(crate::proofs::Walks::one_missing, crate::proofs::Walks::one_wrong, crate::proofs::Walks::one_right))]
-fn check_case(
+fn check_case<'a>(
     alloc: Global,
-    spec: &Spec,
+    spec: &'a Spec,
     plan: &Plan,
     case: &Case,
     lines: &[CertLine],
     at: u32,
+    queries: &mut Queries<'a>,
 ) -> Result<Walk, NoMemory>
     requires well_formed { IsWellFormed spec.now }
     requires fits { CaseFits spec.now case.now }
@@ -116,7 +119,7 @@ fn check_case(
         let why = Why::Missing;
         return Ok(Walk::Fails { case: at, why });
     }
-    match flaw(alloc, spec, plan, case, &lines[place])? {
+    match flaw(alloc, spec, plan, case, &lines[place], queries)? {
         Some(why) => Ok(Walk::Fails { case: at, why }),
         None => Ok(Walk::Goes(at + 1)),
     }
@@ -124,14 +127,15 @@ fn check_case(
 
 /// Checks the lines from a place on against the touched cases of two operations.
 #[tactic(auto, using(crate::proofs::Walks::comes_first, crate::proofs::Walks::comes_on, crate::proofs::Walks::comes_fails, crate::proofs::Walks::comes_end))]
-fn check_pair(
+fn check_pair<'a>(
     alloc: Global,
-    spec: &Spec,
+    spec: &'a Spec,
     plan: &Plan,
     a: u32,
     b: u32,
     lines: &[CertLine],
     at: u32,
+    queries: &mut Queries<'a>,
 ) -> Result<Walk, NoMemory>
     requires well_formed { IsWellFormed spec.now }
     requires known_a { a < length spec.now.ops }
@@ -143,7 +147,7 @@ fn check_pair(
     let mut at = at;
     let mut left = cases(alloc, spec, a, b)?;
     'going: while let Some(case) = left.next() {
-        match check_case(alloc, spec, plan, &case, lines, at)? {
+        match check_case(alloc, spec, plan, &case, lines, at, queries)? {
             Walk::Goes(next) => at = next,
             fails => return Ok(fails),
         }
@@ -153,13 +157,14 @@ fn check_pair(
 
 /// Checks the lines from a place on against the touched cases of an operation and those from it on.
 #[tactic(auto, using(crate::proofs::Walks::comes_first, crate::proofs::Walks::row_on, crate::proofs::Walks::row_fails, crate::proofs::Walks::row_ends))]
-fn check_row(
+fn check_row<'a>(
     alloc: Global,
-    spec: &Spec,
+    spec: &'a Spec,
     plan: &Plan,
     a: u32,
     lines: &[CertLine],
     at: u32,
+    queries: &mut Queries<'a>,
 ) -> Result<Walk, NoMemory>
     requires well_formed { IsWellFormed spec.now }
     requires known_a { a < length spec.now.ops }
@@ -169,7 +174,7 @@ fn check_row(
 {
     let mut at = at;
     for b in a as usize..spec.ops.len() {
-        match check_pair(alloc, spec, plan, a, b as u32, lines, at)? {
+        match check_pair(alloc, spec, plan, a, b as u32, lines, at, queries)? {
             Walk::Goes(next) => at = next,
             Walk::Fails { case, why } => return Ok(Walk::Fails { case, why }),
         }
@@ -185,8 +190,9 @@ fn check_all(alloc: Global, spec: &Spec, plan: &Plan, lines: &[CertLine]) -> Res
     ensures { IfOk result (λ walk. Walks spec.now plan.now lines.now 0 (cases_from spec.now 0) walk) }
 {
     let mut at = 0;
+    let mut queries = Queries::new(alloc);
     for a in 0..spec.ops.len() {
-        match check_row(alloc, spec, plan, a as u32, lines, at)? {
+        match check_row(alloc, spec, plan, a as u32, lines, at, &mut queries)? {
             Walk::Goes(next) => at = next,
             Walk::Fails { case, why } => return Ok(Walk::Fails { case, why }),
         }

@@ -9,7 +9,7 @@ ghost use Rattle.ground_clauses.specs.Conflicting.{IsConflicting, IsTouchedCase}
 ghost use Rattle.spec_model.specs.Fits.{IsWellFormed};
 
 use clause_solver::{Answer, SolveError, solve};
-use ground_clauses::{Case, Derivation, Target, query};
+use ground_clauses::{Case, Derivation, Queries, Target};
 use ind_base::List;
 use spec_model::Spec;
 use std::alloc::Global;
@@ -26,19 +26,29 @@ pub enum Decided {
 }
 
 /// The solver's answer to a touched case's query.
-fn answer(alloc: Global, spec: &Spec, case: &Case) -> Result<Answer, SolveError>
+fn answer<'a>(
+    alloc: Global,
+    spec: &'a Spec,
+    case: &Case,
+    queries: &mut Queries<'a>,
+) -> Result<Answer, SolveError>
     requires well_formed { IsWellFormed spec.now }
     requires touched { IsTouchedCase spec.now case.now }
     ensures answer { IfOk result (λ found. IsAnswer (cnf_of spec.now case.now) found) }
     ensures easy { IfOk result (λ found. IsHard spec.now case.now → ⊥) }
     ensures cause { (n : ℕ) → result ≡ Err (errors.TooHard n) → IsHard spec.now case.now × (n ≡ (cnf_of spec.now case.now).vars) }
 {
-    let cnf = query(alloc, spec, case)?;
-    solve(alloc, &cnf)
+    let cnf = queries.make(alloc, spec, case)?;
+    solve(alloc, cnf)
 }
 
 /// What is found of a touched case.
-fn found(alloc: Global, spec: &Spec, case: &Case) -> Result<Decided, SolveError>
+fn found<'a>(
+    alloc: Global,
+    spec: &'a Spec,
+    case: &Case,
+    queries: &mut Queries<'a>,
+) -> Result<Decided, SolveError>
     requires well_formed { IsWellFormed spec.now }
     requires touched { IsTouchedCase spec.now case.now }
     ensures decision { IfOk result (λ found. IsDecision spec.now case.now found) }
@@ -48,15 +58,37 @@ fn found(alloc: Global, spec: &Spec, case: &Case) -> Result<Decided, SolveError>
     if let Target::Locked(_) = case.target {
         return Ok(Decided::Opposes);
     }
-    match answer(alloc, spec, case)? {
+    match answer(alloc, spec, case, queries)? {
         Answer::Model(model) => Ok(Decided::Model(model)),
         Answer::Refuted(derivation) => Ok(Decided::Refuted(derivation)),
     }
 }
 
+/// Decides a touched case, as `decide` does, in room that is used again for the next one.
+#[tactic(auto, using(crate::proofs::Deciding::decision_tells, crate::proofs::Deciding::decision_clears, crate::proofs::Deciding::decision_shows))]
+pub fn decide_in<'a>(
+    alloc: Global,
+    spec: &'a Spec,
+    case: &Case,
+    queries: &mut Queries<'a>,
+) -> Result<Decided, SolveError>
+    requires well_formed { IsWellFormed spec.now }
+    requires touched { IsTouchedCase spec.now case.now }
+    ensures decision { IfOk result (λ found. IsDecision spec.now case.now found) }
+    // It is conflicting exactly where it opposes or has a model.
+    ensures conflicting { IfOk result (λ found. (tells_conflict found ≡ true) ↔ IsConflicting spec.now case.now) }
+    ensures harmless { IfOk result (λ found. (tells_conflict found ≡ false) ↔ (IsConflicting spec.now case.now → ⊥)) }
+    ensures shown { IfOk result (λ found. ShowsWhy spec.now case.now found) }
+
+    ensures easy { IfOk result (λ found. IsHard spec.now case.now → ⊥) }
+    ensures cause { (n : ℕ) → result ≡ Err (errors.TooHard n) → IsHard spec.now case.now × (n ≡ (cnf_of spec.now case.now).vars) }
+{
+    let decided = found(alloc, spec, case, queries)?;
+    Ok(decided)
+}
+
 /// Decides a touched case, such as `cases` gives. `TooHard` comes exactly where the query has more
 /// than 128 variables; `Memory` may come at any case of a clause.
-#[tactic(auto, using(crate::proofs::Deciding::decision_tells, crate::proofs::Deciding::decision_clears, crate::proofs::Deciding::decision_shows))]
 pub fn decide(alloc: Global, spec: &Spec, case: &Case) -> Result<Decided, SolveError>
     requires well_formed { IsWellFormed spec.now }
     requires touched { IsTouchedCase spec.now case.now }
@@ -69,6 +101,6 @@ pub fn decide(alloc: Global, spec: &Spec, case: &Case) -> Result<Decided, SolveE
     ensures easy { IfOk result (λ found. IsHard spec.now case.now → ⊥) }
     ensures cause { (n : ℕ) → result ≡ Err (errors.TooHard n) → IsHard spec.now case.now × (n ≡ (cnf_of spec.now case.now).vars) }
 {
-    let decided = found(alloc, spec, case)?;
-    Ok(decided)
+    let mut queries = Queries::new(alloc);
+    decide_in(alloc, spec, case, &mut queries)
 }

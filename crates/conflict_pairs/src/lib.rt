@@ -4,5 +4,5 @@
 mod decided;
 mod pair_kind;
 
-pub use decided::{Decided, decide};
+pub use decided::{Decided, decide, decide_in};
 pub use pair_kind::{PairKind, classify};

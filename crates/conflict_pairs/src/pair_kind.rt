@@ -7,9 +7,9 @@ ghost use Rattle.conflict_pairs.specs.Kinds.{IsKind, IsStuck};
 ghost use Rattle.ground_clauses.specs.Cases.{pair_cases};
 ghost use Rattle.spec_model.specs.Fits.{IsWellFormed};
 
-use crate::decided::{Decided, decide};
+use crate::decided::{Decided, decide_in};
 use clause_solver::SolveError;
-use ground_clauses::{Case, Target, cases};
+use ground_clauses::{Case, Queries, Target, cases};
 use ind_base::List;
 use spec_model::Spec;
 use std::alloc::Global;
@@ -67,9 +67,10 @@ pub fn classify(alloc: Global, spec: &Spec, a: u32, b: u32) -> Result<PairKind, 
     ensures cause { (n : ℕ) → result ≡ Err (errors.TooHard n) → IsStuck spec.now (pair_cases spec.now a b) n }
 {
     let mut opposing = None;
+    let mut queries = Queries::new(alloc);
     let mut left = cases(alloc, spec, a, b)?;
     'going: while let Some(case) = left.next() {
-        let decided = decide(alloc, spec, &case)?;
+        let decided = decide_in(alloc, spec, &case, &mut queries)?;
         match turn_of(opposing, case.target, decided) {
             Turn::Ends(model) => return Ok(PairKind::Violating { case, model }),
             Turn::Goes(next) => opposing = next,

@@ -7,16 +7,19 @@ use Rattle.std.proofs.lemmas.List.Elements.{filter-append}
 use Rattle.std.proofs.lemmas.List.Folds.{flat_map-map}
 use Rattle.ground_clauses.proofs.Building.{flat_step}
 use Rattle.ground_clauses.specs.Asking.{denial_clauses, form_clauses, instance_clauses, literal_denial, numbered_all, pieces, rise_clauses, row_clauses, sets_in}
-use Rattle.ground_clauses.specs.Cases.{case_hypotheses, case_variables, clause_cnf, query_of, target_of}
+use Rattle.ground_clauses.specs.Cases.{case_hypotheses, case_sets, case_variables, over, query_of, target_of}
 use Rattle.ground_clauses.specs.Instances.{instance_of}
 use Rattle.ground_clauses.specs.Query.{Hypothesis, atom_clauses, atom_variables, atoms_of, clause_of, denial, denials, forms, hypothesis_clauses, is_atom, literal_form, literal_is_atom, numbered, query_clauses, rise_clause, signed_form}
-use Rattle.ground_clauses.specs.declared.clauses.Cnf.{Cnf}
+use Rattle.ground_clauses.specs.declared.case.Case.{Case}
 use Rattle.ground_clauses.specs.declared.clauses.Lit.{Lit}
 use Rattle.ground_clauses.specs.declared.instances.Instance.{Instance}
 use Rattle.ground_clauses.specs.declared.queries.Asked.{Asked}
 use Rattle.ground_clauses.specs.declared.state_lit.StateLit.{StateLit}
+use Rattle.ground_clauses.specs.declared.state_lit.Variable.{Variable}
+use Rattle.spec_model.specs.declared.spec.Spec.{Spec}
 use Rattle.spec_model.specs.Stable.{rise, rises}
 use Rattle.spec_model.specs.Truths.{signed}
+use Rattle.spec_model.specs.declared.clause.Clause.{Clause}
 use Rattle.spec_model.specs.declared.clause.Literal.{Literal}
 use Rattle.spec_model.specs.declared.instance.Atom.{Atom as ClassAtom}
 use Rattle.spec_model.specs.declared.state.Moment.TheVariants.{Both, First, Second, Start}
@@ -105,17 +108,27 @@ pieces_are q is atoms t atoms_are =
     ∙ ap (λ xs. numbered_all q hs ++ xs) (sym (numbered_append q rows (denials q.spec.now (sets_in q) t)))
     ∙ sym (numbered_append q hs (rows ++ denials q.spec.now (sets_in q) t))
 
--- what was made piece by piece is the query
-pub made_cnf : (q : Asked) (is : List Instance) (atoms : List ClassAtom) (h : Hypothesis) (t vars : ℕ) (clauses : List (List Lit))
-    → map instance_of is ≡ case_hypotheses q.spec.now q.case.now t → atoms ≡ atoms_of (map instance_of is)
+-- what was made piece by piece are the query's clauses
+pub made_clauses : (q : Asked) (is : List Instance) (atoms : List ClassAtom) (h : Hypothesis) (t : ℕ)
+    → map instance_of is ≡ case_hypotheses q.spec.now q.case.now t → atoms ≡ atoms_of (case_hypotheses q.spec.now q.case.now t)
     → q.variables.now ≡ flat_map (atom_variables q.spec.now (sets_in q)) atoms → h ≡ target_of q.spec.now q.case.now t
-    → vars ≡ length q.variables.now → clauses ≡ pieces q is atoms h → record { vars = vars; clauses = clauses } ≡ clause_cnf q.spec.now q.case.now t
-made_cnf q is atoms h t vars clauses found once own aims counted made =
-    let vs_are : q.variables.now ≡ case_variables q.spec.now q.case.now t = own ∙ ap (flat_map (atom_variables q.spec.now (sets_in q))) (once ∙ ap atoms_of found) in
-    let cs_are : clauses ≡ query_of q.spec.now q.case.now t =
-    made ∙ pieces_are q is atoms h once
+    → pieces q is atoms h ≡ query_of q.spec.now q.case.now t
+made_clauses q is atoms h t found once own aims =
+    let vs_are : q.variables.now ≡ case_variables q.spec.now q.case.now t = own ∙ ap (flat_map (atom_variables q.spec.now (sets_in q))) once in
+    pieces_are q is atoms h (once ∙ ap atoms_of (sym found))
     ∙ ap (λ vs. map (map (numbered vs)) (query_clauses q.spec.now (sets_in q) h (map instance_of is))) vs_are
     ∙ ap (λ g. map (map (numbered (case_variables q.spec.now q.case.now t))) (query_clauses q.spec.now (sets_in q) g (map instance_of is))) aims
-    ∙ ap (λ hs. map (map (numbered (case_variables q.spec.now q.case.now t))) (query_clauses q.spec.now (sets_in q) (target_of q.spec.now q.case.now t) hs)) found in
-    ap (λ (n : ℕ). let r : Cnf = record { vars = n; clauses = clauses } in r) (counted ∙ ap length vs_are)
-    ∙ ap (λ (cs : List (List Lit)). let r : Cnf = record { vars = length (case_variables q.spec.now q.case.now t); clauses = cs } in r) cs_are
+    ∙ ap (λ hs. map (map (numbered (case_variables q.spec.now q.case.now t))) (query_clauses q.spec.now (sets_in q) (target_of q.spec.now q.case.now t) hs)) found
+
+pub made_pieces : (q : Asked) (is found : List Instance) (listed atoms : List ClassAtom) (c : Clause) (cs : List ℕ) (start one two last : List (List Lit)) → is ≡ found → listed ≡ atoms → start ≡ []
+    → one ≡ start ++ flat_map (instance_clauses q) is → two ≡ one ++ flat_map (row_clauses q) listed
+    → last ≡ (two ++ flat_map (denial_clauses q cs false) c.premise) ++ flat_map (denial_clauses q cs true) c.conclusion → last ≡ pieces q found atoms (over c cs)
+made_pieces q is found listed atoms c cs start one two last found_are atoms_are none first second third =
+    let end : List (List Lit) → List (List Lit) = λ xs. (xs ++ flat_map (denial_clauses q cs false) c.premise) ++ flat_map (denial_clauses q cs true) c.conclusion in
+    third ∙ ap end (second ∙ ap (λ xs. xs ++ flat_map (row_clauses q) listed) (first ∙ ap (λ xs. xs ++ flat_map (instance_clauses q) is) none))
+    ∙ ap (λ ys. end ((([] ++ flat_map (instance_clauses q) ys)) ++ flat_map (row_clauses q) listed)) found_are
+    ∙ ap (λ ys. end ((([] ++ flat_map (instance_clauses q) found)) ++ flat_map (row_clauses q) ys)) atoms_are
+
+pub made_vars : (spec : Spec) (k : Case) (t : ℕ) (atoms : List ClassAtom) (vs : List Variable) → atoms ≡ atoms_of (case_hypotheses spec k t) → vs ≡ flat_map (atom_variables spec (case_sets spec k)) atoms
+    → length vs ≡ length (case_variables spec k t)
+made_vars spec k t atoms vs once own = ap length (own ∙ ap (flat_map (atom_variables spec (case_sets spec k))) once)

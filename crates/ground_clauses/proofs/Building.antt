@@ -1,5 +1,5 @@
 -- Queries built one piece at a time.
-use Rattle.std.proofs.Common.{◌≡◌, ℕ, suc, ◌+◌, ◌<◌, Bool, true, false, ◌||◌, ◌&&◌, not, cond, List, [], ◌∷◌, ◌++◌, map, length, get_or, drop, refl, sym, ap, append_assoc, append-nil, ◌∙◌, arith}
+use Rattle.std.proofs.Common.{◌≡◌, ℕ, suc, ◌+◌, ◌<◌, Bool, true, false, ◌||◌, ◌&&◌, not, cond, List, [], ◌∷◌, ◌++◌, map, length, get_or, drop, refl, sym, ap, append_assoc, append-nil, ◌∙◌}
 use Rattle.std.specs.List.{list_any, flat_map}
 use Rattle.std.proofs.lemmas.List.{map-append}
 use Rattle.std.proofs.lemmas.Grind.{flat_map-append}
@@ -8,59 +8,50 @@ use Rattle.ground_clauses.proofs.Reaches.{at_place}
 use Rattle.ground_clauses.specs.Cases.{case_sets, equalities_true, over}
 use Rattle.ground_clauses.specs.Instances.{atoms_at, is_shared, meets}
 use Rattle.ground_clauses.specs.Literals.{clause_forms, signed_forms}
-use Rattle.ground_clauses.specs.Query.{Sets, atom_of, atom_variables, clause_of, dedup, dedup_after, entry_at, entry_variables, form_lits, forms, has_both_signs, index_of, instance_atoms, is_certain, literal_atoms, literal_form, opposite, same_atom, same_lit, signed_form}
+use Rattle.ground_clauses.specs.Query.{Sets, atom_of, atom_variables, clause_of, dedup, entry_at, entry_variables, form_lits, forms, has_both_signs, index_of, instance_atoms, is_certain, literal_atoms, literal_form, same_atom, same_lit, signed_form}
 use Rattle.ground_clauses.specs.declared.state_lit.Form.{Form}
 use Rattle.ground_clauses.specs.declared.state_lit.StateLit.{StateLit}
 use Rattle.ground_clauses.specs.declared.state_lit.Variable.{Variable}
-use Rattle.ground_clauses.specs.declared.table.View.{View}
+use Rattle.ground_clauses.specs.declared.queries.Asked.{Asked}
 use Rattle.spec_model.specs.Truths.{literals, signed, values}
 use Rattle.spec_model.specs.declared.clause.Clause.{Clause}
 use Rattle.spec_model.specs.declared.clause.Literal.{Literal}
 use Rattle.spec_model.specs.declared.clause.Literal.TheVariants.{Atom, Equal}
 use Rattle.spec_model.specs.declared.instance.Atom.{Atom as ClassAtom}
 use Rattle.spec_model.specs.declared.spec.Spec.{Spec}
+use Rattle.spec_model.specs.declared.state.Moment.{Moment}
 use Rattle.spec_model.specs.declared.state.Moment.TheVariants.{Both, First, Second, Start}
 
-pub signs_step : (lits : List StateLit) (d : StateLit) → 0 < length lits → has_both_signs lits ≡ (list_any (same_lit (opposite (get_or lits 0 d))) (drop 1 lits) || has_both_signs (drop 1 lits))
-signs_step [] d lt = absurd (omega arith)
-signs_step (x ∷ xs) d lt = refl
+pub forms_step : (q : Asked) (m : Moment) (cs : List ℕ) (sign : Bool) (ls : List Literal) (i : ℕ) (d : Literal) → i < length ls
+    → signed_forms q m cs sign (drop i ls) ≡ literal_form q.spec.now (case_sets q.spec.now q.case.now) m cs sign (get_or ls i d) ∷ signed_forms q m cs sign (drop (i + 1) ls)
+forms_step q m cs sign ls i d lt =
+    at_place (λ xs. signed_forms q m cs sign xs ≡ literal_form q.spec.now (case_sets q.spec.now q.case.now) m cs sign (get_or ls i d) ∷ signed_forms q m cs sign (drop (i + 1) ls)) ls i d lt refl
 
-pub dedup_step : (once lits : List StateLit) (i : ℕ) (d : StateLit) → i < length lits
-    → dedup_after same_lit once (drop i lits) ≡ cond (list_any (same_lit (get_or lits i d)) once) (dedup_after same_lit once (drop (i + 1) lits)) (get_or lits i d ∷ dedup_after same_lit (once ++ get_or lits i d ∷ []) (drop (i + 1) lits))
-dedup_step once lits i d lt =
-    at_place (λ xs. dedup_after same_lit once xs ≡ cond (list_any (same_lit (get_or lits i d)) once) (dedup_after same_lit once (drop (i + 1) lits)) (get_or lits i d ∷ dedup_after same_lit (once ++ get_or lits i d ∷ []) (drop (i + 1) lits)))
-    lits i d lt refl
+signed_map : (q : Asked) (m : Moment) (cs : List ℕ) (sign : Bool) (ls : List Literal) → map (signed_form q.spec.now (case_sets q.spec.now q.case.now) m cs) (map (signed sign) ls) ≡ signed_forms q m cs sign ls
+signed_map q m cs sign [] = refl
+signed_map q m cs sign (l ∷ ls) = ap (λ xs. literal_form q.spec.now (case_sets q.spec.now q.case.now) m cs sign l ∷ xs) (signed_map q m cs sign ls)
 
-pub forms_step : (view : View) (cs : List ℕ) (sign : Bool) (ls : List Literal) (i : ℕ) (d : Literal) → i < length ls
-    → signed_forms view cs sign (drop i ls) ≡ literal_form view.spec.now (case_sets view.spec.now view.case.now) view.moment cs sign (get_or ls i d) ∷ signed_forms view cs sign (drop (i + 1) ls)
-forms_step view cs sign ls i d lt =
-    at_place (λ xs. signed_forms view cs sign xs ≡ literal_form view.spec.now (case_sets view.spec.now view.case.now) view.moment cs sign (get_or ls i d) ∷ signed_forms view cs sign (drop (i + 1) ls)) ls i d lt refl
+pub forms_parts : (q : Asked) (m : Moment) (cs : List ℕ) (c : Clause) → forms q.spec.now (case_sets q.spec.now q.case.now) m cs c ≡ signed_forms q m cs false c.premise ++ signed_forms q m cs true c.conclusion
+forms_parts q m cs c =
+    map-append (signed_form q.spec.now (case_sets q.spec.now q.case.now) m cs) (map (signed false) c.premise) (map (signed true) c.conclusion)
+    ∙ ap (λ xs. xs ++ map (signed_form q.spec.now (case_sets q.spec.now q.case.now) m cs) (map (signed true) c.conclusion)) (signed_map q m cs false c.premise)
+    ∙ ap (λ xs. signed_forms q m cs false c.premise ++ xs) (signed_map q m cs true c.conclusion)
 
-signed_map : (view : View) (cs : List ℕ) (sign : Bool) (ls : List Literal) → map (signed_form view.spec.now (case_sets view.spec.now view.case.now) view.moment cs) (map (signed sign) ls) ≡ signed_forms view cs sign ls
-signed_map view cs sign [] = refl
-signed_map view cs sign (l ∷ ls) = ap (λ xs. literal_form view.spec.now (case_sets view.spec.now view.case.now) view.moment cs sign l ∷ xs) (signed_map view cs sign ls)
+certain_parts : (q : Asked) (m : Moment) (cs : List ℕ) (c : Clause) → list_any is_certain (clause_forms q m cs c) ≡ (list_any is_certain (signed_forms q m cs false c.premise) || list_any is_certain (signed_forms q m cs true c.conclusion))
+certain_parts q m cs c = ap (list_any is_certain) (forms_parts q m cs c) ∙ any_append is_certain (signed_forms q m cs false c.premise) (signed_forms q m cs true c.conclusion)
 
-pub forms_parts : (view : View) (cs : List ℕ) (c : Clause) → forms view.spec.now (case_sets view.spec.now view.case.now) view.moment cs c ≡ signed_forms view cs false c.premise ++ signed_forms view cs true c.conclusion
-forms_parts view cs c =
-    map-append (signed_form view.spec.now (case_sets view.spec.now view.case.now) view.moment cs) (map (signed false) c.premise) (map (signed true) c.conclusion)
-    ∙ ap (λ xs. xs ++ map (signed_form view.spec.now (case_sets view.spec.now view.case.now) view.moment cs) (map (signed true) c.conclusion)) (signed_map view cs false c.premise)
-    ∙ ap (λ xs. signed_forms view cs false c.premise ++ xs) (signed_map view cs true c.conclusion)
+pub certain_premise : (q : Asked) (m : Moment) (cs : List ℕ) (c : Clause) → list_any is_certain (signed_forms q m cs false c.premise) ≡ true → list_any is_certain (clause_forms q m cs c) ≡ true
+certain_premise q m cs c h = certain_parts q m cs c ∙ ap (λ b. b || list_any is_certain (signed_forms q m cs true c.conclusion)) h
 
-certain_parts : (view : View) (cs : List ℕ) (c : Clause) → list_any is_certain (clause_forms view cs c) ≡ (list_any is_certain (signed_forms view cs false c.premise) || list_any is_certain (signed_forms view cs true c.conclusion))
-certain_parts view cs c = ap (list_any is_certain) (forms_parts view cs c) ∙ any_append is_certain (signed_forms view cs false c.premise) (signed_forms view cs true c.conclusion)
+pub certain_conclusion : (q : Asked) (m : Moment) (cs : List ℕ) (c : Clause) → list_any is_certain (signed_forms q m cs false c.premise) ≡ false
+    → list_any is_certain (clause_forms q m cs c) ≡ list_any is_certain (signed_forms q m cs true c.conclusion)
+certain_conclusion q m cs c h = certain_parts q m cs c ∙ ap (λ b. b || list_any is_certain (signed_forms q m cs true c.conclusion)) h
 
-pub certain_premise : (view : View) (cs : List ℕ) (c : Clause) → list_any is_certain (signed_forms view cs false c.premise) ≡ true → list_any is_certain (clause_forms view cs c) ≡ true
-certain_premise view cs c h = certain_parts view cs c ∙ ap (λ b. b || list_any is_certain (signed_forms view cs true c.conclusion)) h
-
-pub certain_conclusion : (view : View) (cs : List ℕ) (c : Clause) → list_any is_certain (signed_forms view cs false c.premise) ≡ false
-    → list_any is_certain (clause_forms view cs c) ≡ list_any is_certain (signed_forms view cs true c.conclusion)
-certain_conclusion view cs c h = certain_parts view cs c ∙ ap (λ b. b || list_any is_certain (signed_forms view cs true c.conclusion)) h
-
-pub lits_both : (view : View) (cs : List ℕ) (c : Clause) (xs : List StateLit)
-    → xs ++ flat_map form_lits (clause_forms view cs c) ≡ (xs ++ flat_map form_lits (signed_forms view cs false c.premise)) ++ flat_map form_lits (signed_forms view cs true c.conclusion)
-lits_both view cs c xs =
-    ap (λ ys. xs ++ ys) (ap (flat_map form_lits) (forms_parts view cs c) ∙ flat_map-append form_lits (signed_forms view cs false c.premise) (signed_forms view cs true c.conclusion))
-    ∙ sym (append_assoc xs (flat_map form_lits (signed_forms view cs false c.premise)) (flat_map form_lits (signed_forms view cs true c.conclusion)))
+pub lits_both : (q : Asked) (m : Moment) (cs : List ℕ) (c : Clause) (xs : List StateLit)
+    → xs ++ flat_map form_lits (clause_forms q m cs c) ≡ (xs ++ flat_map form_lits (signed_forms q m cs false c.premise)) ++ flat_map form_lits (signed_forms q m cs true c.conclusion)
+lits_both q m cs c xs =
+    ap (λ ys. xs ++ ys) (ap (flat_map form_lits) (forms_parts q m cs c) ∙ flat_map-append form_lits (signed_forms q m cs false c.premise) (signed_forms q m cs true c.conclusion))
+    ∙ sym (append_assoc xs (flat_map form_lits (signed_forms q m cs false c.premise)) (flat_map form_lits (signed_forms q m cs true c.conclusion)))
 
 pub certain_clause : (fs : List Form) → list_any is_certain fs ≡ true → clause_of fs ≡ []
 certain_clause fs h = ap (λ b. cond (b || has_both_signs (flat_map form_lits fs)) [] (dedup same_lit (flat_map form_lits fs) ∷ [])) h
@@ -127,9 +118,3 @@ map_step f xs i d lt = at_place (λ ys. map f ys ≡ f (get_or xs i d) ∷ map f
 
 pub index_step : {X : Type 0} (test : X → Bool) (xs : List X) (i : ℕ) (d : X) → i < length xs → index_of test (drop i xs) ≡ cond (test (get_or xs i d)) 0 (suc (index_of test (drop (i + 1) xs)))
 index_step test xs i d lt = at_place (λ ys. index_of test ys ≡ cond (test (get_or xs i d)) 0 (suc (index_of test (drop (i + 1) xs)))) xs i d lt refl
-
-pub atoms_once_step : (seen atoms : List ClassAtom) (i : ℕ) (d : ClassAtom) → i < length atoms
-    → dedup_after same_atom seen (drop i atoms) ≡ cond (list_any (same_atom (get_or atoms i d)) seen) (dedup_after same_atom seen (drop (i + 1) atoms)) (get_or atoms i d ∷ dedup_after same_atom (seen ++ get_or atoms i d ∷ []) (drop (i + 1) atoms))
-atoms_once_step seen atoms i d lt =
-    at_place (λ xs. dedup_after same_atom seen xs ≡ cond (list_any (same_atom (get_or atoms i d)) seen) (dedup_after same_atom seen (drop (i + 1) atoms)) (get_or atoms i d ∷ dedup_after same_atom (seen ++ get_or atoms i d ∷ []) (drop (i + 1) atoms)))
-    atoms i d lt refl

@@ -5,13 +5,11 @@ use Rattle.std.proofs.lemmas.List.{map-append}
 use Rattle.std.proofs.lemmas.List.Elements.{filter-append}
 use Rattle.std.proofs.lemmas.Grind.{flat_map-append}
 use Rattle.ground_clauses.proofs.Lists.{each_weaker}
-use Rattle.ground_clauses.proofs.Reaches.{at_place}
 use Rattle.ground_clauses.proofs.Seen.{few}
 use Rattle.ground_clauses.specs.Cases.{assignments, case_hypotheses, class_count, classes_in, over, pattern_sorts, sorts_of, target_of, upto_from}
-use Rattle.ground_clauses.specs.Instances.{atoms_in, clause_instances, found_from, instance_of, meets}
-use Rattle.ground_clauses.specs.Query.{Hypothesis, atoms_of, dedup, instance_atoms, same_atom}
+use Rattle.ground_clauses.specs.Instances.{clause_instances, found_from, meets}
+use Rattle.ground_clauses.specs.Query.{Hypothesis, instance_atoms}
 use Rattle.ground_clauses.specs.declared.case.Case.{Case}
-use Rattle.ground_clauses.specs.declared.instances.Instance.{Instance}
 use Rattle.ground_clauses.specs.declared.instances.Search.{Search}
 use Rattle.spec_model.specs.Fits.{ClauseFits, IsWellFormed}
 use Rattle.spec_model.specs.Truths.{var_sorts}
@@ -86,15 +84,3 @@ found_all spec k t s sorts classes target =
     ap (λ ss. flat_map (λ c. filter (meets s.target.now) (map (over c) (assignments (class_count ss s.classes.now) (var_sorts c)))) spec.clauses) sorts
     ∙ ap (λ cs. flat_map (λ c. filter (meets s.target.now) (map (over c) (assignments (class_count (pattern_sorts spec k.a k.b k.target) cs) (var_sorts c)))) spec.clauses) classes
     ∙ ap (λ as_are. flat_map (λ c. filter (meets as_are) (map (over c) (assignments (classes_in spec k) (var_sorts c)))) spec.clauses) target
-
--- ---- the atoms of instances
-
-pub instance_step : (is : List Instance) (i : ℕ) (d : Instance) → i < length is → atoms_in (drop i is) ≡ instance_atoms (instance_of (get_or is i d)) ++ atoms_in (drop (i + 1) is)
-instance_step is i d lt = at_place (λ ys. atoms_in ys ≡ instance_atoms (instance_of (get_or is i d)) ++ atoms_in (drop (i + 1) is)) is i d lt refl
-
-atoms_in_map : (is : List Instance) → flat_map instance_atoms (map instance_of is) ≡ atoms_in is
-atoms_in_map [] = refl
-atoms_in_map (i ∷ is) = ap (λ xs. instance_atoms (instance_of i) ++ xs) (atoms_in_map is)
-
-pub atoms_in_all : (is : List Instance) → dedup same_atom (atoms_in is) ≡ atoms_of (map instance_of is)
-atoms_in_all is = ap (dedup same_atom) (sym (atoms_in_map is))

@@ -1,3 +1,4 @@
+pub mod Apart
 pub mod Asking
 pub mod Bounds
 pub mod Building
@@ -10,9 +11,11 @@ pub mod Keeps
 pub mod Known
 pub mod Listed
 pub mod Lists
+pub mod Looking
 pub mod Masks
 pub mod Named
 pub mod Numbers
+pub mod Once
 pub mod Parts
 pub mod Reaches
 pub mod Refuted

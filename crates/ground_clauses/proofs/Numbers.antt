@@ -46,7 +46,7 @@ same_moment_itself First = refl
 same_moment_itself Second = refl
 same_moment_itself Both = refl
 
-same_moment-true : (m k : Moment) → same_moment m k ≡ true → m ≡ k
+pub same_moment-true : (m k : Moment) → same_moment m k ≡ true → m ≡ k
 same_moment-true Start Start h = refl
 same_moment-true First First h = refl
 same_moment-true Second Second h = refl
@@ -64,7 +64,7 @@ same_moment-true Both Start h = absurd (true≢false (sym h))
 same_moment-true Both First h = absurd (true≢false (sym h))
 same_moment-true Both Second h = absurd (true≢false (sym h))
 
-same_variable-true : (x y : Variable) → same_variable x y ≡ true → x ≡ y
+pub same_variable-true : (x y : Variable) → same_variable x y ≡ true → x ≡ y
 same_variable-true x y h =
     let k = and_parts (same_atom x.atom y.atom) (same_moment x.moment y.moment) h in
     ap (λ a. variable a x.moment) (same_atom-true x.atom y.atom k.0) ∙ ap (λ m. variable y.atom m) (same_moment-true x.moment y.moment k.1)

@@ -1,9 +1,9 @@
 -- Clauses by their premise and conclusion.
-use Rattle.std.proofs.Common.{◌≡◌, ℕ, Bool, true, false, ◌||◌, ◌&&◌, nat_eq, List, [], ◌∷◌, ◌++◌, map, refl, sym, ap, ◌∙◌}
+use Rattle.std.proofs.Common.{◌≡◌, ℕ, ◌<◌, Bool, true, false, ◌||◌, List, [], ◌∷◌, ◌++◌, length, drop, map, refl, sym, ap, ◌∙◌, arith}
 use Rattle.std.specs.Prelude.{Option, is_some}
 use Rattle.std.specs.List.{list_any, flat_map}
-use Rattle.std.specs.Cmp.Lexicographic.{pointwise}
 use Rattle.ground_clauses.proofs.Lists.{any_map}
+use Rattle.ground_clauses.proofs.Reaches.{at_place}
 use Rattle.ground_clauses.specs.Cases.{equalities_true, equality_holds, equality_true, over, touches}
 use Rattle.ground_clauses.specs.Literals.{is_set}
 use Rattle.ground_clauses.specs.Query.{literal_atoms, same_list}
@@ -55,8 +55,6 @@ touches_parts sets c cs =
     ∙ ap (λ b. b || list_any (λ l. list_any (set_at sets) (literal_atoms cs l.literal)) (map (signed true) c.conclusion)) (literals_set sets cs false c.premise)
     ∙ ap (λ b. list_any (is_set sets cs) c.premise || b) (literals_set sets cs true c.conclusion)
 
-pub same_pointwise : (xs ys : List ℕ) → pointwise nat_eq xs ys ≡ same_list xs ys
-same_pointwise [] [] = refl
-same_pointwise [] (y ∷ ys) = refl
-same_pointwise (x ∷ xs) [] = refl
-same_pointwise (x ∷ xs) (y ∷ ys) = ap (λ b. nat_eq x y && b) (same_pointwise xs ys)
+pub same_end : (xs : List ℕ) (i : ℕ) (d : ℕ) (ys : List ℕ) → i < length xs → length ys < 1 → false ≡ same_list (drop i xs) ys
+same_end xs i d [] lt few = at_place (λ zs. false ≡ same_list zs []) xs i d lt refl
+same_end xs i d (y ∷ ys) lt few = absurd (omega arith)

@@ -1,5 +1,5 @@
 -- Instances of clauses at classes, as they are looked for.
-use Rattle.std.specs.Prelude.{ℕ, Bool, false, ◌&&◌, not, List, ◌++◌, map, filter}
+use Rattle.std.specs.Prelude.{ℕ, Bool, false, ◌&&◌, not, if◌then◌else◌, List, [], ◌∷◌, ◌++◌, map, filter}
 use Rattle.std.specs.List.{list_any, flat_map}
 use Rattle.ground_clauses.specs.Cases.{assignments, class_count, equalities_true, over, sorts_of}
 use Rattle.ground_clauses.specs.Query.{Hypothesis, atom_of, instance_atoms, literal_atoms, same_atom}
@@ -37,5 +37,11 @@ found_from s c front vars =
 abbrev pub clause_instances : Search → Clause → List Hypothesis
 clause_instances s c = filter (meets s.target.now) (map (over c) (assignments (class_count s.sorts.now s.classes.now) (var_sorts c)))
 
-abbrev pub atoms_in : List Instance → List ClassAtom
-atoms_in is = flat_map (λ i. instance_atoms (instance_of i)) is
+-- an atom behind others, unless it is one of them
+abbrev pub with_one : List ClassAtom → ClassAtom → List ClassAtom
+with_one once a = if list_any (same_atom a) once then once else once ++ a ∷ []
+
+-- these atoms behind others, each once
+abbrev pub with_all : List ClassAtom → List ClassAtom → List ClassAtom
+with_all once [] = once
+with_all once (a ∷ atoms) = with_all (with_one once a) atoms

@@ -10,4 +10,5 @@ pub mod Listing
 pub mod Literals
 pub mod Numbering
 pub mod Query
+pub mod Rows
 pub mod States

@@ -1,18 +1,16 @@
 -- Clauses by their premise and conclusion.
-use Rattle.std.specs.Prelude.{ℕ, Bool, false, List, [], ◌∷◌, Option, Some, None, is_some, map}
+use Rattle.std.specs.Prelude.{ℕ, Bool, false, List, Option, is_some, map}
 use Rattle.ground_clauses.specs.Cases.{case_sets}
 use Rattle.ground_clauses.specs.Query.{Sets, forms, literal_form}
 use Rattle.ground_clauses.specs.declared.state_lit.Form.{Form}
-use Rattle.ground_clauses.specs.declared.table.View.{View}
+use Rattle.ground_clauses.specs.declared.queries.Asked.{Asked}
 use Rattle.ground_clauses.specs.declared.touched.Side.{Side}
 use Rattle.ground_clauses.specs.declared.touched.Side.TheVariants.{One, Other}
 use Rattle.spec_model.specs.Truths.{values}
 use Rattle.spec_model.specs.declared.clause.Clause.{Clause}
 use Rattle.spec_model.specs.declared.clause.Literal.{Literal}
 use Rattle.spec_model.specs.declared.clause.Literal.TheVariants.{Atom, Equal}
-use Rattle.spec_model.specs.Truths.{values}
-use Rattle.spec_model.specs.declared.clause.Literal.{Literal}
-use Rattle.spec_model.specs.declared.clause.Literal.TheVariants.{Atom, Equal}
+use Rattle.spec_model.specs.declared.state.Moment.{Moment}
 
 -- an atom that is set, at these classes
 abbrev pub is_set : (ℕ → List ℕ → Option Bool) → List ℕ → Literal → Bool
@@ -24,15 +22,10 @@ abbrev pub sets_of : Sets → Side → ℕ → List ℕ → Option Bool
 sets_of sets One = sets.one
 sets_of sets Other = sets.other
 
--- what literals that need this truth are, in the state of a view
-abbrev pub signed_forms : View → List ℕ → Bool → List Literal → List Form
-signed_forms view cs sign ls = map (literal_form view.spec.now (case_sets view.spec.now view.case.now) view.moment cs sign) ls
+-- what literals that need this truth are, in a state
+abbrev pub signed_forms : Asked → Moment → List ℕ → Bool → List Literal → List Form
+signed_forms q m cs sign ls = map (literal_form q.spec.now (case_sets q.spec.now q.case.now) m cs sign) ls
 
--- what a clause's literals are, in the state of a view
-abbrev pub clause_forms : View → List ℕ → Clause → List Form
-clause_forms view cs c = forms view.spec.now (case_sets view.spec.now view.case.now) view.moment cs c
-
--- no clause, or one
-abbrev pub clauses_of : {X : Type 0} → Option (List X) → List (List X)
-clauses_of None = []
-clauses_of (Some c) = c ∷ []
+-- what a clause's literals are, in a state
+abbrev pub clause_forms : Asked → Moment → List ℕ → Clause → List Form
+clause_forms q m cs c = forms q.spec.now (case_sets q.spec.now q.case.now) m cs c

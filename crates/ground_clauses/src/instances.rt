@@ -6,17 +6,17 @@ ghost use Rattle.spec_model.specs.Fits.{IsWellFormed};
 ghost use Rattle.spec_model.specs.Truths as truths;
 ghost use Rattle.ground_clauses.specs.Cases as cases;
 ghost use Rattle.ground_clauses.specs.Cases.{CaseKnown};
-ghost use Rattle.ground_clauses.specs.Instances.{atoms_at, atoms_in, clause_instances, found_from, instance_of, is_shared, meets};
+ghost use Rattle.ground_clauses.specs.Instances.{atoms_at, clause_instances, found_from, instance_of, is_shared, meets, with_all, with_one};
 ghost use Rattle.ground_clauses.specs.Query as queries;
 
 use crate::case::Case;
 use crate::literals::same_atom;
 use crate::pattern::{class_count, pattern_sorts};
 use crate::places::clause_at;
+use crate::slots::Slots;
 use crate::touched::{equalities_true, target_classes, values};
 use ind_base::{List, NoMemory};
 use spec_model::{Args, Atom, Clause, Literal, Spec, Var};
-use std::alloc::Global;
 
 /// A clause of the specification at classes.
 #[derive(Clone, Copy, Debug)]
@@ -37,6 +37,17 @@ pub(crate) fn atom_among(atom: &Atom, atoms: &[Atom]) -> bool
     false
 }
 
+/// Whether an atom is among these, where the slots name the place at which to look first.
+#[tactic(auto, using(crate::proofs::Once::found_at))]
+fn is_listed(slots: &Slots, atom: &Atom, atoms: &[Atom]) -> bool
+    ensures { result ≡ list_any (queries.same_atom atom.now) atoms.now }
+{
+    match atoms.get(slots.hint(atom)) {
+        Some(other) if same_atom(atom, other) => true,
+        _ => atom_among(atom, atoms),
+    }
+}
+
 /// Appends the atoms of these literals at the classes.
 #[tactic(auto, using(crate::proofs::Building::atoms_step))]
 fn add_atoms(literals: &[Literal], classes: &[u32], atoms: &mut List<Atom>) -> Result<(), NoMemory>
@@ -53,7 +64,7 @@ fn add_atoms(literals: &[Literal], classes: &[u32], atoms: &mut List<Atom>) -> R
 
 /// Appends the atoms of a clause at classes.
 #[tactic(auto, using(crate::proofs::Building::instance_atoms_parts))]
-pub(crate) fn add_clause_atoms(
+fn add_clause_atoms(
     clause: &Clause,
     classes: &[u32],
     atoms: &mut List<Atom>,
@@ -154,83 +165,106 @@ fn add_clause_instances<'a>(
     Ok(())
 }
 
-/// The instances of these clauses that meet the target.
+/// Appends the instances of these clauses that meet the target.
 #[tactic(auto, using(crate::proofs::Building::flat_step, crate::proofs::Finding::few_at))]
 fn find_instances<'a>(
-    alloc: Global,
     search: &Search<'_>,
     clauses: &'a [Clause],
-) -> Result<List<Instance<'a>>, NoMemory>
+    found: &mut List<Instance<'a>>,
+) -> Result<(), NoMemory>
     requires { AllByRecursion (λ c. length c.vars ≤ 4) clauses.now }
-    ensures { IfOk result (λ found. map instance_of found ≡ flat_map (clause_instances search.now) clauses.now) }
+    ensures { OnOk result (map instance_of found.new ≡ map instance_of found.old ++ flat_map (clause_instances search.now) clauses.now) }
 {
-    let mut found = List::new(alloc);
     for clause in clauses {
-        add_clause_instances(search, clause, &mut found)?;
+        add_clause_instances(search, clause, found)?;
     }
-    Ok(found)
+    Ok(())
 }
 
-/// The hypotheses of the query of a case about this clause.
+/// Finds the hypotheses of the query of a case about this clause, in place of those found before.
+/// The list of the target's atoms is room for the search.
 #[tactic(auto, using(crate::proofs::Finding::found_all, crate::proofs::Finding::few_vars))]
-pub(crate) fn hypotheses<'a>(
-    alloc: Global,
+pub(crate) fn find_hypotheses<'a>(
     spec: &'a Spec,
     case: &Case,
     place: u32,
-) -> Result<List<Instance<'a>>, NoMemory>
+    target: &mut List<Atom>,
+    found: &mut List<Instance<'a>>,
+) -> Result<(), NoMemory>
     requires well_formed { IsWellFormed spec.now }
     requires known { CaseKnown spec.now case.now }
     requires clause { place < length spec.now.clauses }
-    ensures { IfOk result (λ found. map instance_of found ≡ cases.case_hypotheses spec.now case.now place) }
+    ensures { OnOk result (map instance_of found.new ≡ cases.case_hypotheses spec.now case.now place) }
 {
+    target.truncate(0);
+    found.truncate(0);
+    add_clause_atoms(clause_at(spec, place), target_classes(spec, case), target)?;
     let sorts = pattern_sorts(spec, case.a, case.b, case.target);
-    let mut target = List::new(alloc);
-    add_clause_atoms(
-        clause_at(spec, place),
-        target_classes(spec, case),
-        &mut target,
-    )?;
     let search = Search {
         sorts: sorts.as_slice(),
         classes: case.classes.as_slice(),
         target: target.as_slice(),
     };
-    let found = find_instances(alloc, &search, spec.clauses.as_slice())?;
-    Ok(found)
+    find_instances(&search, spec.clauses.as_slice(), found)?;
+    Ok(())
 }
 
-/// Appends the atoms of these instances.
-#[tactic(auto, using(crate::proofs::Finding::instance_step))]
-fn add_instance_atoms(instances: &[Instance<'_>], atoms: &mut List<Atom>) -> Result<(), NoMemory>
-    ensures { OnOk result (atoms.new ≡ atoms.old ++ atoms_in instances.now) }
+/// Appends an atom, unless it is there.
+fn add_new(atom: Atom, slots: &mut Slots, once: &mut List<Atom>) -> Result<(), NoMemory>
+    ensures { OnOk result (once.new ≡ with_one once.old atom) }
 {
-    for instance in instances {
-        add_clause_atoms(instance.clause, instance.classes.as_slice(), atoms)?;
+    if !is_listed(slots, &atom, once.as_slice()) {
+        slots.note(&atom, once.len())?;
+        once.push(atom)?;
     }
     Ok(())
 }
 
-/// Each atom once, where it stands first.
-#[tactic(auto, using(crate::proofs::Building::atoms_once_step))]
-fn once(alloc: Global, atoms: &[Atom]) -> Result<List<Atom>, NoMemory>
-    ensures { IfOk result (λ once. once ≡ queries.dedup queries.same_atom atoms.now) }
+/// Appends those atoms of these literals at the classes that aren't there.
+#[tactic(auto, using(crate::proofs::Once::literals_step))]
+fn add_new_atoms(
+    literals: &[Literal],
+    classes: &[u32],
+    slots: &mut Slots,
+    once: &mut List<Atom>,
+) -> Result<(), NoMemory>
+    ensures { OnOk result (once.new ≡ with_all once.old (atoms_at classes.now literals.now)) }
 {
-    let mut once = List::new(alloc);
-    for atom in atoms {
-        if !atom_among(atom, once.as_slice()) {
-            once.push(*atom)?;
+    for literal in literals {
+        if let Literal::Atom { pred, vars } = literal {
+            let args = values(classes, vars);
+            add_new(Atom { pred: *pred, args }, slots, once)?;
         }
     }
-    Ok(once)
+    Ok(())
 }
 
-/// The atoms of these instances by their first appearance.
-#[tactic(auto, using(crate::proofs::Finding::atoms_in_all))]
-pub(crate) fn atoms_of(alloc: Global, instances: &[Instance<'_>]) -> Result<List<Atom>, NoMemory>
-    ensures { IfOk result (λ atoms. atoms ≡ queries.atoms_of (map instance_of instances.now)) }
+/// Appends those atoms of an instance that aren't there.
+fn add_instance_atoms(
+    instance: &Instance<'_>,
+    slots: &mut Slots,
+    once: &mut List<Atom>,
+) -> Result<(), NoMemory>
+    ensures { OnOk result (once.new ≡ with_all once.old (queries.instance_atoms (instance_of instance.now))) }
 {
-    let mut all = List::new(alloc);
-    add_instance_atoms(instances, &mut all)?;
-    once(alloc, all.as_slice())
+    let classes = instance.classes.as_slice();
+    add_new_atoms(instance.clause.premise.as_slice(), classes, slots, once)?;
+    add_new_atoms(instance.clause.conclusion.as_slice(), classes, slots, once)?;
+    Ok(())
+}
+
+/// Lists the atoms of these instances by their first appearance, in place of those listed before.
+#[tactic(auto, using(crate::proofs::Once::instances_step))]
+pub(crate) fn list_atoms(
+    instances: &[Instance<'_>],
+    slots: &mut Slots,
+    once: &mut List<Atom>,
+) -> Result<(), NoMemory>
+    ensures { OnOk result (once.new ≡ queries.atoms_of (map instance_of instances.now)) }
+{
+    once.truncate(0);
+    for instance in instances {
+        add_instance_atoms(instance, slots, once)?;
+    }
+    Ok(())
 }

@@ -1,7 +1,7 @@
 //! The query of a case.
 
-ghost use Rattle.std.specs.Prelude.{◌≡◌, true, ◌<◌, ◌≤◌, ◌+◌, ◌^◌, ◌++◌, ◌∷◌, [], length, map, IfOk, OnOk};
-ghost use Rattle.std.specs.List.{flat_map};
+ghost use Rattle.std.specs.Prelude.{◌≡◌, true, false, ◌<◌, ◌≤◌, ◌+◌, ◌^◌, ◌++◌, ◌∷◌, [], length, map, IfOk, OnOk};
+ghost use Rattle.std.specs.List.{flat_map, AllByRecursion};
 ghost use Rattle.spec_model.specs.Fits.{IsWellFormed};
 ghost use Rattle.spec_model.specs.Stable as stable;
 ghost use Rattle.ground_clauses.specs.Cases as cases;
@@ -10,41 +10,39 @@ ghost use Rattle.ground_clauses.specs.Asking.{CanAsk, pieces, denial_clauses, fo
 ghost use Rattle.ground_clauses.specs.Derivations.{SpeaksOf};
 ghost use Rattle.ground_clauses.specs.Listing.{CaseFits};
 ghost use Rattle.ground_clauses.specs.Instances.{instance_of};
+ghost use Rattle.ground_clauses.specs.Rows as rows;
+ghost use Rattle.ground_clauses.specs.Rows.{AreApart, CanLook, IsNumbered, IsRow};
 ghost use Rattle.spec_model.specs.declared.state.Touch.TheVariants.{Loses};
 ghost use Rattle.ground_clauses.specs.Query as queries;
 
 use crate::case::{Case, Target};
 use crate::clauses::{Cnf, Lit};
-use crate::instances::{Instance, atoms_of, hypotheses};
-use crate::literals::{clause_lits, opposite, same_variable};
-use crate::pattern::pattern_sorts;
+use crate::instances::{Instance, find_hypotheses, list_atoms};
+use crate::literals::{
+    ClauseRoom, KnownForm, KnownLit, denied, literal_form, make_clause, same_moment, same_variable,
+};
 use crate::places::clause_at;
-use crate::state_lit::{Form, StateLit, Variable};
-use crate::table::{View, entry_at, literal_form, touch_first, touch_second};
+use crate::rows::{Looking, Row, Seen, find_row, list_rows, seen_in};
+use crate::slots::Slots;
+use crate::state_lit::{StateLit, Variable};
+use crate::table::{entry, touch_first, touch_second};
 use crate::touched::target_classes;
 use ind_base::{List, NoMemory};
-use spec_model::{Args, Atom, Clause, Entry, Literal, Moment, Spec, Touch};
+use spec_model::{Atom, Clause, Entry, Literal, Moment, Spec, Touch};
 use std::alloc::Global;
 
-/// Appends the atom's variable in a state, where it has one of its own.
+/// Appends the atom's variable in a state, where it has one of its own by this entry of the table.
 fn add_variable(
-    spec: &Spec,
-    case: &Case,
     atom: &Atom,
     moment: Moment,
+    entry: Entry,
     variables: &mut List<Variable>,
 ) -> Result<(), NoMemory>
-    requires { CaseKnown spec.now case.now }
-    ensures { OnOk result (variables.new ≡ variables.old ++ queries.entry_variables atom.now moment (queries.entry_at spec.now (cases.case_sets spec.now case.now) atom.now moment)) }
+    ensures { OnOk result (variables.new ≡ variables.old ++ queries.entry_variables atom.now moment entry) }
 {
-    let own = match (entry_at(spec, case, atom, moment), moment) {
-        (Entry::Same(Moment::Start), Moment::Start)
-        | (Entry::Same(Moment::First), Moment::First)
-        | (Entry::Same(Moment::Second), Moment::Second)
-        | (Entry::Same(Moment::Both), Moment::Both) => true,
-        _ => false,
-    };
-    if own {
+    if let Entry::Same(same) = entry
+        && same_moment(moment, same)
+    {
         let atom = *atom;
         variables.push(Variable { atom, moment })?;
     }
@@ -62,29 +60,93 @@ fn add_variables(
     requires { CaseKnown spec.now case.now }
     ensures { OnOk result (variables.new ≡ variables.old ++ queries.atom_variables spec.now (cases.case_sets spec.now case.now) atom.now) }
 {
-    add_variable(spec, case, atom, Moment::Start, variables)?;
-    add_variable(spec, case, atom, Moment::First, variables)?;
-    add_variable(spec, case, atom, Moment::Second, variables)?;
-    add_variable(spec, case, atom, Moment::Both, variables)?;
+    let first = touch_first(spec, case, atom);
+    let second = touch_second(spec, case, atom);
+    add_variable(
+        atom,
+        Moment::Start,
+        entry(first, second, Moment::Start),
+        variables,
+    )?;
+    add_variable(
+        atom,
+        Moment::First,
+        entry(first, second, Moment::First),
+        variables,
+    )?;
+    add_variable(
+        atom,
+        Moment::Second,
+        entry(first, second, Moment::Second),
+        variables,
+    )?;
+    add_variable(
+        atom,
+        Moment::Both,
+        entry(first, second, Moment::Both),
+        variables,
+    )?;
     Ok(())
 }
 
-/// The variables of these atoms.
+/// Lists the variables of these atoms, in place of those listed before.
 #[tactic(auto, using(crate::proofs::Building::flat_step))]
-fn variables_of(
-    alloc: Global,
+fn list_variables(
     spec: &Spec,
     case: &Case,
     atoms: &[Atom],
-) -> Result<List<Variable>, NoMemory>
+    variables: &mut List<Variable>,
+) -> Result<(), NoMemory>
     requires { CaseKnown spec.now case.now }
-    ensures { IfOk result (λ variables. variables ≡ flat_map (queries.atom_variables spec.now (cases.case_sets spec.now case.now)) atoms.now) }
+    ensures { OnOk result (variables.new ≡ flat_map (queries.atom_variables spec.now (cases.case_sets spec.now case.now)) atoms.now) }
 {
-    let mut variables = List::new(alloc);
+    variables.truncate(0);
     for atom in atoms {
-        add_variables(spec, case, atom, &mut variables)?;
+        add_variables(spec, case, atom, variables)?;
     }
-    Ok(variables)
+    Ok(())
+}
+
+/// What a query is about: its hypotheses, their atoms, and the variables of these, in lists that are
+/// used again for the next query.
+#[derive(Debug, Drop)]
+pub(crate) struct Subject<'a> {
+    target: List<Atom>,
+    pub(crate) found: List<Instance<'a>>,
+    pub(crate) atoms: List<Atom>,
+    pub(crate) slots: Slots,
+    pub(crate) variables: List<Variable>,
+}
+
+impl<'a> Subject<'a> {
+    /// Nothing was found yet.
+    pub(crate) fn new(alloc: Global) -> Subject<'a> {
+        Subject {
+            target: List::new(alloc),
+            found: List::new(alloc),
+            atoms: List::new(alloc),
+            slots: Slots::new(alloc),
+            variables: List::new(alloc),
+        }
+    }
+
+    /// Finds what the query of a case about the clause at this place is about.
+    #[tactic(auto, using(crate::proofs::Bounds::few_made, crate::proofs::Apart::variables_apart))]
+    pub(crate) fn find(&mut self, spec: &'a Spec, case: &Case, place: u32) -> Result<(), NoMemory>
+        requires well_formed { IsWellFormed spec.now }
+        requires fits { CaseFits spec.now case.now }
+        requires clause { place < length spec.now.clauses }
+        ensures found { OnOk result (map instance_of self.new.found ≡ cases.case_hypotheses spec.now case.now place) }
+        ensures atoms { OnOk result (self.new.atoms ≡ queries.atoms_of (cases.case_hypotheses spec.now case.now place)) }
+        ensures variables { OnOk result (self.new.variables ≡ flat_map (queries.atom_variables spec.now (cases.case_sets spec.now case.now)) self.new.atoms) }
+        ensures few { OnOk result (length self.new.variables < 2 ^ 32) }
+        ensures apart { OnOk result (AreApart self.new.variables) }
+    {
+        find_hypotheses(spec, case, place, &mut self.target, &mut self.found)?;
+        list_atoms(self.found.as_slice(), &mut self.slots, &mut self.atoms)?;
+        list_variables(spec, case, self.atoms.as_slice(), &mut self.variables)?;
+        Ok(())
+    }
 }
 
 /// The number of a variable: its place among these.
@@ -103,34 +165,6 @@ pub(crate) fn number_of(variables: &[Variable], variable: &Variable) -> usize
     place
 }
 
-/// A literal by the number of its variable.
-fn numbered(variables: &[Variable], lit: &StateLit) -> Lit
-    requires { length variables.now < 2 ^ 32 }
-    ensures { result ≡ queries.numbered variables.now lit.now }
-{
-    let var = number_of(variables, &lit.var) as u32;
-    Lit { var, yes: lit.yes }
-}
-
-/// Appends a clause, its variables numbered.
-#[tactic(auto, using(crate::proofs::Building::map_step))]
-fn push_clause(
-    alloc: Global,
-    variables: &[Variable],
-    lits: &[StateLit],
-    clauses: &mut List<List<Lit>>,
-) -> Result<(), NoMemory>
-    requires { length variables.now < 2 ^ 32 }
-    ensures { OnOk result (clauses.new ≡ clauses.old ++ map (queries.numbered variables.now) lits.now ∷ []) }
-{
-    let mut clause = List::new(alloc);
-    for lit in lits {
-        clause.push(numbered(variables, lit))?;
-    }
-    clauses.push(clause)?;
-    Ok(())
-}
-
 /// A query that is being made: its case and its variables.
 #[derive(Clone, Copy, Debug)]
 pub(crate) struct Asked<'a> {
@@ -139,43 +173,108 @@ pub(crate) struct Asked<'a> {
     pub(crate) variables: &'a [Variable],
 }
 
+/// The clauses of a query that is being made, and lists of earlier clauses that are used again.
+#[derive(Debug, Drop)]
+pub(crate) struct Draft {
+    pub(crate) cnf: Cnf,
+    spare: List<List<Lit>>,
+}
+
+impl Draft {
+    /// No clauses.
+    fn new(alloc: Global) -> Draft {
+        let clauses = List::new(alloc);
+        Draft {
+            cnf: Cnf { vars: 0, clauses },
+            spare: List::new(alloc),
+        }
+    }
+
+    /// Takes all clauses away.
+    fn clear(&mut self) -> Result<(), NoMemory>
+        ensures { OnOk result (self.new.cnf.clauses ≡ []) }
+    {
+        'clearing: while let Some(clause) = self.cnf.clauses.pop() {
+            self.spare.push(clause)?;
+        }
+        Ok(())
+    }
+
+    /// The query that was made.
+    fn into_cnf(self) -> Cnf
+        ensures { result ≡ self.cnf }
+    {
+        let Draft { cnf, spare: _ } = self;
+        cnf
+    }
+
+    /// A list without literals.
+    fn fresh(&mut self, alloc: Global) -> List<Lit>
+        ensures list { result ≡ [] }
+        ensures same { self.new.cnf.clauses ≡ self.old.cnf.clauses }
+    {
+        match self.spare.pop() {
+            Some(clause) => {
+                let mut clause = clause;
+                clause.truncate(0);
+                clause
+            }
+            None => List::new(alloc),
+        }
+    }
+
+    /// Appends a clause.
+    #[tactic(auto, using(crate::proofs::Building::map_step))]
+    fn push(&mut self, alloc: Global, lits: &[KnownLit]) -> Result<(), NoMemory>
+        ensures { OnOk result (self.new.cnf.clauses ≡ self.old.cnf.clauses ++ map rows.lit_of lits.now ∷ []) }
+    {
+        let mut clause = self.fresh(alloc);
+        for known in lits {
+            clause.push(Lit {
+                var: known.number,
+                yes: known.lit.yes,
+            })?;
+        }
+        self.cnf.clauses.push(clause)?;
+        Ok(())
+    }
+}
+
 /// Appends the form of a hypothesis in a state.
+#[tactic(auto, using(crate::proofs::Looking::no_clauses))]
 fn add_form(
     alloc: Global,
-    asked: &Asked<'_>,
+    looking: &Looking<'_>,
     moment: Moment,
     instance: &Instance<'_>,
-    clauses: &mut List<List<Lit>>,
+    room: &mut ClauseRoom,
+    draft: &mut Draft,
 ) -> Result<(), NoMemory>
-    requires { CanAsk asked.now }
-    ensures { OnOk result (clauses.new ≡ clauses.old ++ form_clauses asked.now moment instance.now) }
+    requires { CanLook looking.now }
+    ensures { OnOk result (draft.new.cnf.clauses ≡ draft.old.cnf.clauses ++ form_clauses looking.now.asked moment instance.now) }
 {
-    let view = View {
-        spec: asked.spec,
-        case: asked.case,
-        moment,
-    };
-    let form = clause_lits(alloc, &view, instance.clause, instance.classes.as_slice())?;
-    match form {
-        Some(lits) => push_clause(alloc, asked.variables, lits.as_slice(), clauses),
-        None => Ok(()),
+    let classes = instance.classes.as_slice();
+    if make_clause(looking, moment, instance.clause, classes, room)? {
+        draft.push(alloc, room.once.as_slice())?;
     }
+    Ok(())
 }
 
 /// Appends the forms of a hypothesis in the first three states.
 #[tactic(auto, using(crate::proofs::Asking::three_forms))]
 fn add_hypothesis(
     alloc: Global,
-    asked: &Asked<'_>,
+    looking: &Looking<'_>,
     instance: &Instance<'_>,
-    clauses: &mut List<List<Lit>>,
+    room: &mut ClauseRoom,
+    draft: &mut Draft,
 ) -> Result<(), NoMemory>
-    requires { CanAsk asked.now }
-    ensures { OnOk result (clauses.new ≡ clauses.old ++ instance_clauses asked.now instance.now) }
+    requires { CanLook looking.now }
+    ensures { OnOk result (draft.new.cnf.clauses ≡ draft.old.cnf.clauses ++ instance_clauses looking.now.asked instance.now) }
 {
-    add_form(alloc, asked, Moment::Start, instance, clauses)?;
-    add_form(alloc, asked, Moment::First, instance, clauses)?;
-    add_form(alloc, asked, Moment::Second, instance, clauses)?;
+    add_form(alloc, looking, Moment::Start, instance, room, draft)?;
+    add_form(alloc, looking, Moment::First, instance, room, draft)?;
+    add_form(alloc, looking, Moment::Second, instance, room, draft)?;
     Ok(())
 }
 
@@ -183,48 +282,58 @@ fn add_hypothesis(
 #[tactic(auto, using(crate::proofs::Asking::instances_step))]
 fn add_hypotheses(
     alloc: Global,
-    asked: &Asked<'_>,
+    looking: &Looking<'_>,
     instances: &[Instance<'_>],
-    clauses: &mut List<List<Lit>>,
+    room: &mut ClauseRoom,
+    draft: &mut Draft,
 ) -> Result<(), NoMemory>
-    requires { CanAsk asked.now }
-    ensures { OnOk result (clauses.new ≡ clauses.old ++ flat_map (instance_clauses asked.now) instances.now) }
+    requires { CanLook looking.now }
+    ensures { OnOk result (draft.new.cnf.clauses ≡ draft.old.cnf.clauses ++ flat_map (instance_clauses looking.now.asked) instances.now) }
 {
     for instance in instances {
-        add_hypothesis(alloc, asked, instance, clauses)?;
+        add_hypothesis(alloc, looking, instance, room, draft)?;
     }
     Ok(())
 }
 
+/// The literal that the atom of a row has its winning value in a state, or that it hasn't.
+#[tactic(auto, using(crate::proofs::Looking::own_number))]
+fn row_lit(asked: &Asked<'_>, row: &Row, moment: Moment, yes: bool) -> KnownLit
+    requires can { CanAsk asked.now }
+    requires row { IsRow asked.now row.now }
+    ensures lit { result.lit ≡ queries.state_lit (queries.variable row.now.atom moment) yes }
+    ensures number { IsNumbered asked.now.variables.now result }
+{
+    let atom = row.atom;
+    let var = Variable { atom, moment };
+    let number = match seen_in(row, moment) {
+        Seen::Same {
+            moment: same,
+            number,
+        } if same_moment(moment, same) => number,
+        _ => number_of(asked.variables, &var) as u32,
+    };
+    let lit = StateLit { var, yes };
+    KnownLit { lit, number }
+}
+
 /// Appends the clause that an atom which wins in one state wins in another.
+#[tactic(auto, using(crate::proofs::Looking::rise_numbered))]
 fn push_rise(
     alloc: Global,
     asked: &Asked<'_>,
-    atom: &Atom,
+    row: &Row,
     from: Moment,
     to: Moment,
-    clauses: &mut List<List<Lit>>,
+    draft: &mut Draft,
 ) -> Result<(), NoMemory>
-    requires { CanAsk asked.now }
-    ensures { OnOk result (clauses.new ≡ clauses.old ++ map (queries.numbered asked.now.variables.now) (queries.rise_clause atom.now (stable.rise from to)) ∷ []) }
+    requires can { CanAsk asked.now }
+    requires row { IsRow asked.now row.now }
+    ensures { OnOk result (draft.new.cnf.clauses ≡ draft.old.cnf.clauses ++ map (queries.numbered asked.now.variables.now) (queries.rise_clause row.now.atom (stable.rise from to)) ∷ []) }
 {
-    let lits = [
-        StateLit {
-            var: Variable {
-                atom: *atom,
-                moment: from,
-            },
-            yes: false,
-        },
-        StateLit {
-            var: Variable {
-                atom: *atom,
-                moment: to,
-            },
-            yes: true,
-        },
-    ];
-    push_clause(alloc, asked.variables, &lits, clauses)
+    let before = row_lit(asked, row, from, false);
+    let after = row_lit(asked, row, to, true);
+    draft.push(alloc, &[before, after])
 }
 
 /// Appends the clauses of an atom that both operations set to the losing value.
@@ -232,35 +341,32 @@ fn push_rise(
 fn push_four_rises(
     alloc: Global,
     asked: &Asked<'_>,
-    atom: &Atom,
-    clauses: &mut List<List<Lit>>,
+    row: &Row,
+    draft: &mut Draft,
 ) -> Result<(), NoMemory>
-    requires { CanAsk asked.now }
-    ensures { OnOk result (clauses.new ≡ clauses.old ++ rise_clauses asked.now atom.now (stable.rises Loses Loses)) }
+    requires can { CanAsk asked.now }
+    requires row { IsRow asked.now row.now }
+    ensures { OnOk result (draft.new.cnf.clauses ≡ draft.old.cnf.clauses ++ rise_clauses asked.now row.now.atom (stable.rises Loses Loses)) }
 {
-    push_rise(alloc, asked, atom, Moment::First, Moment::Start, clauses)?;
-    push_rise(alloc, asked, atom, Moment::Second, Moment::Start, clauses)?;
-    push_rise(alloc, asked, atom, Moment::Both, Moment::First, clauses)?;
-    push_rise(alloc, asked, atom, Moment::Both, Moment::Second, clauses)?;
+    push_rise(alloc, asked, row, Moment::First, Moment::Start, draft)?;
+    push_rise(alloc, asked, row, Moment::Second, Moment::Start, draft)?;
+    push_rise(alloc, asked, row, Moment::Both, Moment::First, draft)?;
+    push_rise(alloc, asked, row, Moment::Both, Moment::Second, draft)?;
     Ok(())
 }
 
-/// Appends the clauses of the table for an atom.
-fn add_row(
-    alloc: Global,
-    asked: &Asked<'_>,
-    atom: &Atom,
-    clauses: &mut List<List<Lit>>,
-) -> Result<(), NoMemory>
-    requires { CanAsk asked.now }
-    ensures { OnOk result (clauses.new ≡ clauses.old ++ row_clauses asked.now atom.now) }
+/// Appends the clauses of the table for the atom of a row.
+fn add_row(alloc: Global, asked: &Asked<'_>, row: &Row, draft: &mut Draft) -> Result<(), NoMemory>
+    requires can { CanAsk asked.now }
+    requires row { IsRow asked.now row.now }
+    ensures { OnOk result (draft.new.cnf.clauses ≡ draft.old.cnf.clauses ++ row_clauses asked.now row.now.atom) }
 {
-    let first = touch_first(asked.spec, asked.case, atom);
-    let second = touch_second(asked.spec, asked.case, atom);
+    let first = touch_first(asked.spec, asked.case, &row.atom);
+    let second = touch_second(asked.spec, asked.case, &row.atom);
     match (first, second) {
-        (Touch::Loses, Touch::Loses) => push_four_rises(alloc, asked, atom, clauses),
-        (Touch::Loses, _) => push_rise(alloc, asked, atom, Moment::First, Moment::Start, clauses),
-        (_, Touch::Loses) => push_rise(alloc, asked, atom, Moment::Second, Moment::Start, clauses),
+        (Touch::Loses, Touch::Loses) => push_four_rises(alloc, asked, row, draft),
+        (Touch::Loses, _) => push_rise(alloc, asked, row, Moment::First, Moment::Start, draft),
+        (_, Touch::Loses) => push_rise(alloc, asked, row, Moment::Second, Moment::Start, draft),
         _ => Ok(()),
     }
 }
@@ -269,43 +375,40 @@ fn add_row(
 #[tactic(auto, using(crate::proofs::Building::flat_step))]
 fn add_rows(
     alloc: Global,
-    asked: &Asked<'_>,
+    looking: &Looking<'_>,
     atoms: &[Atom],
-    clauses: &mut List<List<Lit>>,
+    draft: &mut Draft,
 ) -> Result<(), NoMemory>
-    requires { CanAsk asked.now }
-    ensures { OnOk result (clauses.new ≡ clauses.old ++ flat_map (row_clauses asked.now) atoms.now) }
+    requires { CanLook looking.now }
+    ensures { OnOk result (draft.new.cnf.clauses ≡ draft.old.cnf.clauses ++ flat_map (row_clauses looking.now.asked) atoms.now) }
 {
     for atom in atoms {
-        add_row(alloc, asked, atom, clauses)?;
+        let row = find_row(looking, atom);
+        add_row(alloc, &looking.asked, &row, draft)?;
     }
     Ok(())
 }
 
 /// Appends that a literal of the target is false with both, where it is an atom.
+#[tactic(auto, using(crate::proofs::Looking::denial_made, crate::proofs::Looking::denial_open))]
 fn add_denial(
     alloc: Global,
-    asked: &Asked<'_>,
+    looking: &Looking<'_>,
     sign: bool,
     literal: &Literal,
     classes: &[u32],
-    clauses: &mut List<List<Lit>>,
+    draft: &mut Draft,
 ) -> Result<(), NoMemory>
-    requires { CanAsk asked.now }
-    ensures { OnOk result (clauses.new ≡ clauses.old ++ denial_clauses asked.now classes.now sign literal.now) }
+    requires { CanLook looking.now }
+    ensures { OnOk result (draft.new.cnf.clauses ≡ draft.old.cnf.clauses ++ denial_clauses looking.now.asked classes.now sign literal.now) }
 {
-    let view = View {
-        spec: asked.spec,
-        case: asked.case,
-        moment: Moment::Both,
-    };
     let Literal::Atom { .. } = literal else {
         return Ok(());
     };
-    match literal_form(&view, sign, literal, classes) {
-        Form::Constant(true) => push_clause(alloc, asked.variables, &[], clauses),
-        Form::Constant(false) => Ok(()),
-        Form::Open(lit) => push_clause(alloc, asked.variables, &[opposite(&lit)], clauses),
+    match literal_form(looking, Moment::Both, sign, literal, classes) {
+        KnownForm::Certain(true) => draft.push(alloc, &[]),
+        KnownForm::Certain(false) => Ok(()),
+        KnownForm::Open(lit) => draft.push(alloc, &[denied(&lit)]),
     }
 }
 
@@ -313,112 +416,165 @@ fn add_denial(
 #[tactic(auto, using(crate::proofs::Building::flat_step))]
 fn add_denials(
     alloc: Global,
-    asked: &Asked<'_>,
+    looking: &Looking<'_>,
     sign: bool,
     literals: &[Literal],
     classes: &[u32],
-    clauses: &mut List<List<Lit>>,
+    draft: &mut Draft,
 ) -> Result<(), NoMemory>
-    requires { CanAsk asked.now }
-    ensures { OnOk result (clauses.new ≡ clauses.old ++ flat_map (denial_clauses asked.now classes.now sign) literals.now) }
+    requires { CanLook looking.now }
+    ensures { OnOk result (draft.new.cnf.clauses ≡ draft.old.cnf.clauses ++ flat_map (denial_clauses looking.now.asked classes.now sign) literals.now) }
 {
     for literal in literals {
-        add_denial(alloc, asked, sign, literal, classes, clauses)?;
+        add_denial(alloc, looking, sign, literal, classes, draft)?;
     }
     Ok(())
 }
 
-/// The clauses of a query, over its variables.
-fn query_clauses(
+/// Appends that all atoms of the target are false with both.
+fn add_target(
     alloc: Global,
-    asked: &Asked<'_>,
-    instances: &[Instance<'_>],
-    atoms: &[Atom],
+    looking: &Looking<'_>,
     target: &Clause,
     classes: &[u32],
-) -> Result<List<List<Lit>>, NoMemory>
-    requires { CanAsk asked.now }
-    ensures { IfOk result (λ clauses. clauses ≡ pieces asked.now instances.now atoms.now (cases.over target.now classes.now)) }
+    draft: &mut Draft,
+) -> Result<(), NoMemory>
+    requires { CanLook looking.now }
+    ensures { OnOk result (draft.new.cnf.clauses ≡ (draft.old.cnf.clauses ++ flat_map (denial_clauses looking.now.asked classes.now false) target.now.premise) ++ flat_map (denial_clauses looking.now.asked classes.now true) target.now.conclusion) }
 {
-    let mut clauses = List::new(alloc);
-    add_hypotheses(alloc, asked, instances, &mut clauses)?;
-    add_rows(alloc, asked, atoms, &mut clauses)?;
     add_denials(
         alloc,
-        asked,
+        looking,
         false,
         target.premise.as_slice(),
         classes,
-        &mut clauses,
+        draft,
     )?;
     add_denials(
         alloc,
-        asked,
+        looking,
         true,
         target.conclusion.as_slice(),
         classes,
-        &mut clauses,
+        draft,
     )?;
-    Ok(clauses)
+    Ok(())
 }
 
-/// The query about the clause at this place, over its hypotheses, atoms and variables.
+/// The clauses of the query about the clause at this place, in place of those before.
 fn make_query(
     alloc: Global,
-    asked: &Asked<'_>,
+    looking: &Looking<'_>,
     place: u32,
-    instances: &[Instance<'_>],
-    atoms: &[Atom],
-) -> Result<Cnf, NoMemory>
-    requires can { CanAsk asked.now }
-    requires clause { place < length asked.now.spec.now.clauses }
-    requires found { map instance_of instances.now ≡ cases.case_hypotheses asked.now.spec.now asked.now.case.now place }
-    requires once { atoms.now ≡ queries.atoms_of (map instance_of instances.now) }
-    requires own { asked.now.variables.now ≡ flat_map (queries.atom_variables asked.now.spec.now (sets_in asked.now)) atoms.now }
-    ensures { IfOk result (λ cnf. cnf ≡ cases.clause_cnf asked.now.spec.now asked.now.case.now place) }
+    subject: &Subject<'_>,
+    room: &mut ClauseRoom,
+    draft: &mut Draft,
+) -> Result<(), NoMemory>
+    requires can { CanLook looking.now }
+    requires clause { place < length looking.now.asked.spec.now.clauses }
+    requires found { map instance_of subject.now.found ≡ cases.case_hypotheses looking.now.asked.spec.now looking.now.asked.case.now place }
+    requires once { subject.now.atoms ≡ queries.atoms_of (cases.case_hypotheses looking.now.asked.spec.now looking.now.asked.case.now place) }
+    requires own { looking.now.asked.variables.now ≡ flat_map (queries.atom_variables looking.now.asked.spec.now (sets_in looking.now.asked)) subject.now.atoms }
+    ensures { OnOk result (draft.new.cnf.clauses ≡ cases.query_of looking.now.asked.spec.now looking.now.asked.case.now place) }
 {
-    let target = clause_at(asked.spec, place);
-    let classes = target_classes(asked.spec, asked.case);
-    let vars = asked.variables.len() as u32;
-    let clauses = query_clauses(alloc, asked, instances, atoms, target, classes)?;
-    Ok(Cnf { vars, clauses })
+    let target = clause_at(looking.asked.spec, place);
+    let classes = target_classes(looking.asked.spec, looking.asked.case);
+    draft.clear()?;
+    add_hypotheses(alloc, looking, subject.found.as_slice(), room, draft)?;
+    add_rows(alloc, looking, subject.atoms.as_slice(), draft)?;
+    add_target(alloc, looking, target, classes, draft)?;
+    Ok(())
 }
 
-/// The variables of the query of a case about the clause at this place.
-#[tactic(auto, using(crate::proofs::Bounds::few_made))]
-pub(crate) fn case_variables(
-    alloc: Global,
-    spec: &Spec,
-    case: &Case,
-    place: u32,
-    atoms: &[Atom],
-) -> Result<List<Variable>, NoMemory>
-    requires well_formed { IsWellFormed spec.now }
-    requires fits { CaseFits spec.now case.now }
-    requires atoms { atoms.now ≡ queries.atoms_of (cases.case_hypotheses spec.now case.now place) }
-    ensures value { IfOk result (λ variables. variables ≡ flat_map (queries.atom_variables spec.now (cases.case_sets spec.now case.now)) atoms.now) }
-    ensures few { IfOk result (λ variables. length variables < 2 ^ 32) }
-{
-    let variables = variables_of(alloc, spec, case, atoms)?;
-    Ok(variables)
+/// Room in which queries are made, one after another: each takes the lists that the last one had.
+#[derive(Debug, Drop)]
+pub struct Queries<'a> {
+    subject: Subject<'a>,
+    rows: List<Row>,
+    room: ClauseRoom,
+    draft: Draft,
 }
 
-/// The query of a case about the clause at this place.
-fn clause_query(alloc: Global, spec: &Spec, case: &Case, place: u32) -> Result<Cnf, NoMemory>
-    requires well_formed { IsWellFormed spec.now }
-    requires fits { CaseFits spec.now case.now }
-    requires clause { place < length spec.now.clauses }
-    ensures { IfOk result (λ cnf. cnf ≡ cases.clause_cnf spec.now case.now place) }
-{
-    let instances = hypotheses(alloc, spec, case, place)?;
-    let atoms = atoms_of(alloc, instances.as_slice())?;
-    let variables = case_variables(alloc, spec, case, place, atoms.as_slice())?;
-    let asked = Asked {
-        spec,
-        case,
-        variables: variables.as_slice(),
-    };
-    make_query(alloc, &asked, place, instances.as_slice(), atoms.as_slice())
+impl<'a> Queries<'a> {
+    /// Room that has no lists yet. It takes no memory.
+    pub fn new(alloc: Global) -> Queries<'a> {
+        Queries {
+            subject: Subject::new(alloc),
+            rows: List::new(alloc),
+            room: ClauseRoom::new(alloc),
+            draft: Draft::new(alloc),
+        }
+    }
+
+    /// Makes the query about the clause at this place.
+    #[tactic(auto, using(crate::proofs::Asking::made_vars))]
+    fn make_clause_query(
+        &mut self,
+        alloc: Global,
+        spec: &'a Spec,
+        case: &Case,
+        place: u32,
+    ) -> Result<(), NoMemory>
+        requires well_formed { IsWellFormed spec.now }
+        requires fits { CaseFits spec.now case.now }
+        requires clause { place < length spec.now.clauses }
+        ensures { OnOk result (self.new.draft.cnf ≡ cases.clause_cnf spec.now case.now place) }
+    {
+        self.subject.find(spec, case, place)?;
+        let subject = &self.subject;
+        let variables = subject.variables.as_slice();
+        let vars = variables.len() as u32;
+        let asked = Asked {
+            spec,
+            case,
+            variables,
+        };
+        list_rows(&asked, subject.atoms.as_slice(), &mut self.rows)?;
+        let looking = Looking {
+            asked,
+            rows: self.rows.as_slice(),
+            slots: &subject.slots,
+        };
+        make_query(
+            alloc,
+            &looking,
+            place,
+            subject,
+            &mut self.room,
+            &mut self.draft,
+        )?;
+        self.draft.cnf.vars = vars;
+        Ok(())
+    }
+
+    /// Makes the query of a case.
+    fn fill(&mut self, alloc: Global, spec: &'a Spec, case: &Case) -> Result<(), NoMemory>
+        requires well_formed { IsWellFormed spec.now }
+        requires fits { CaseFits spec.now case.now }
+        ensures { OnOk result (self.new.draft.cnf ≡ cases.cnf_of spec.now case.now) }
+    {
+        match case.target {
+            Target::Clause(place) => self.make_clause_query(alloc, spec, case, place),
+            Target::Locked(_) => {
+                self.draft.clear()?;
+                self.draft.cnf.vars = 0;
+                Ok(())
+            }
+        }
+    }
+
+    /// The query of a case, as `query` gives it, in place of the last one. Whatever a call left
+    /// here, also one that wanted memory, the next query is that of its case.
+    #[tactic(auto, using(crate::proofs::Speaking::query_speaks))]
+    pub fn make(&mut self, alloc: Global, spec: &'a Spec, case: &Case) -> Result<&Cnf, NoMemory>
+        requires well_formed { IsWellFormed spec.now }
+        requires fits { CaseFits spec.now case.now }
+        ensures value { IfOk result (λ cnf. cnf.now ≡ cases.cnf_of spec.now case.now) }
+        ensures own { cases.is_touched_case spec.now case.now ≡ true → SpeaksOf (cases.cnf_of spec.now case.now).vars (cases.cnf_of spec.now case.now).clauses }
+    {
+        self.fill(alloc, spec, case)?;
+        Ok(&self.draft.cnf)
+    }
 }
 
 /// The query of a case about a clause. A model of it is a way in which the two operations, each
@@ -430,11 +586,8 @@ pub fn query(alloc: Global, spec: &Spec, case: &Case) -> Result<Cnf, NoMemory>
     ensures value { IfOk result (λ cnf. cnf ≡ cases.cnf_of spec.now case.now) }
     ensures own { cases.is_touched_case spec.now case.now ≡ true → SpeaksOf (cases.cnf_of spec.now case.now).vars (cases.cnf_of spec.now case.now).clauses }
 {
-    match case.target {
-        Target::Clause(place) => clause_query(alloc, spec, case, place),
-        Target::Locked(_) => Ok(Cnf {
-            vars: 0,
-            clauses: List::new(alloc),
-        }),
-    }
+    let mut queries = Queries::new(alloc);
+    queries.fill(alloc, spec, case)?;
+    let Queries { draft, .. } = queries;
+    Ok(draft.into_cnf())
 }

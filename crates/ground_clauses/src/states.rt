@@ -8,8 +8,7 @@ ghost use Rattle.ground_clauses.specs.States as states;
 ghost use Rattle.ground_clauses.specs.declared.case.Target.TheVariants as targets;
 
 use crate::case::{Case, Target};
-use crate::instances::{atoms_of, hypotheses};
-use crate::queries::{Asked, case_variables, number_of};
+use crate::queries::{Asked, Subject, number_of};
 use crate::state_lit::Variable;
 use crate::table::{entry_at, winner};
 use ind_base::{List, NoMemory};
@@ -92,15 +91,14 @@ fn clause_states(
     requires clause { place < length spec.now.clauses }
     ensures { IfOk result (λ found. found ≡ states.target_states spec.now case.now model.now (targets.Clause place)) }
 {
-    let instances = hypotheses(alloc, spec, case, place)?;
-    let atoms = atoms_of(alloc, instances.as_slice())?;
-    let variables = case_variables(alloc, spec, case, place, atoms.as_slice())?;
+    let mut subject = Subject::new(alloc);
+    subject.find(spec, case, place)?;
     let asked = Asked {
         spec,
         case,
-        variables: variables.as_slice(),
+        variables: subject.variables.as_slice(),
     };
-    all_states(alloc, &asked, model, atoms.as_slice())
+    all_states(alloc, &asked, model, subject.atoms.as_slice())
 }
 
 /// Each atom of a case's query, by its first appearance, with its truths in the four states of a

@@ -8,9 +8,8 @@ ghost use Rattle.ground_clauses.specs.Cases.{CaseKnown};
 ghost use Rattle.ground_clauses.specs.Query as queries;
 
 use crate::case::Case;
-use crate::state_lit::{Form, StateLit, Variable};
-use crate::touched::{class_at, first_sets, second_sets, values};
-use spec_model::{Atom, Entry, Literal, Moment, Rule, Spec, Touch};
+use crate::touched::{first_sets, second_sets};
+use spec_model::{Atom, Entry, Moment, Rule, Spec, Touch};
 
 /// Whether the winning value of a rule is true.
 fn rule_wins(rule: Rule) -> bool
@@ -50,7 +49,7 @@ fn touch_of(wins: bool, set: Option<bool>) -> Touch
 }
 
 /// The entry of the table for a state, by what the two instances do to the atom.
-fn entry(first: Touch, second: Touch, moment: Moment) -> Entry
+pub(crate) fn entry(first: Touch, second: Touch, moment: Moment) -> Entry
     ensures { result ≡ stable.entry first second moment }
 {
     match (moment, first, second) {
@@ -101,44 +100,4 @@ pub(crate) fn entry_at(spec: &Spec, case: &Case, atom: &Atom, moment: Moment) ->
         touch_second(spec, case, atom),
         moment,
     )
-}
-
-/// A case, seen in one of the four states.
-#[derive(Clone, Copy, Debug)]
-pub(crate) struct View<'a> {
-    pub(crate) spec: &'a Spec,
-    pub(crate) case: &'a Case,
-    pub(crate) moment: Moment,
-}
-
-/// An atom with this truth, in a state.
-fn atom_form(view: &View<'_>, sign: bool, atom: Atom) -> Form
-    requires { CaseKnown view.now.spec.now view.now.case.now }
-    ensures { result ≡ queries.atom_form view.now.spec.now sign atom (queries.entry_at view.now.spec.now (cases.case_sets view.now.spec.now view.now.case.now) atom view.now.moment) }
-{
-    let yes = winner(view.spec, atom.pred) == sign;
-    match entry_at(view.spec, view.case, &atom, view.moment) {
-        Entry::Always => Form::Constant(yes),
-        Entry::Same(moment) => {
-            let var = Variable { atom, moment };
-            Form::Open(StateLit { var, yes })
-        }
-    }
-}
-
-/// A literal with this truth, at classes, in a state.
-pub(crate) fn literal_form(view: &View<'_>, sign: bool, literal: &Literal, classes: &[u32]) -> Form
-    requires { CaseKnown view.now.spec.now view.now.case.now }
-    ensures { result ≡ queries.literal_form view.now.spec.now (cases.case_sets view.now.spec.now view.now.case.now) view.now.moment classes.now sign literal.now }
-{
-    match literal {
-        Literal::Atom { pred, vars } => {
-            let args = values(classes, vars);
-            atom_form(view, sign, Atom { pred: *pred, args })
-        }
-        Literal::Equal { left, right } => {
-            let equal = class_at(classes, *left) == class_at(classes, *right);
-            Form::Constant(equal == sign)
-        }
-    }
 }

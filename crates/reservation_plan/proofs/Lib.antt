@@ -1,10 +1,12 @@
 pub mod Coming
 pub mod Conflicting
+pub mod Enumerated
 pub mod Exact
 pub mod Lined
 pub mod Made
 pub mod Paired
 pub mod Partners
 pub mod Reserved
+pub mod Splitting
 pub mod Steps
 pub mod Telling

@@ -5,12 +5,15 @@ use Rattle.std.specs.List.{AllByRecursion, AllZip, find, flat_map}
 use Rattle.std.proofs.Math.Seq.{split_at, take-length, take-suc}
 use Rattle.std.proofs.lemmas.Grind.{flat_map-append}
 use Rattle.std.proofs.lemmas.List.{length-take-le}
+use Rattle.std.proofs.lemmas.Slice.Zip.{AllZip-long}
 use Rattle.certificate_check.proofs.Unseparated.{checked_is_stable}
-use Rattle.certificate_check.specs.Checks.{Checks, FewSteps, line_fits}
+use Rattle.certificate_check.specs.Checks.{AreShort, Checks, FewSteps, line_fits}
 use Rattle.certificate_check.specs.declared.certificate.CertLine.{CertLine}
 use Rattle.ground_clauses.proofs.Hypotheses.{Among, among_each}
 use Rattle.ground_clauses.specs.Cases.{pair_cases, touched_cases}
+use Rattle.ground_clauses.specs.Counting.{case_count}
 use Rattle.reservation_plan.proofs.Coming.{refuses_within}
+use Rattle.reservation_plan.proofs.Enumerated.{few_touched}
 use Rattle.reservation_plan.proofs.Lined.{IsOne, drafts_more, locks_one, parts_one}
 use Rattle.reservation_plan.proofs.Made.{plan_made}
 use Rattle.reservation_plan.proofs.Paired.{IsPair, all_cases, few_pairs, pairs_known}
@@ -113,6 +116,14 @@ drafts_check spec d locks parts masks lines locks_is parts_is lines_is masks_is 
   where
     plan_is : flat_map (locks_at spec) (pairs_of spec) ≡ locks → marked_from 0 spec.clauses ≡ masks → flat_map (parts_at spec) (pairs_of spec) ≡ parts → derived_plan spec ≡ record { locks = locks; masks = masks; parts = parts }
     plan_is x y z = cc
+
+-- a line for each touched case, and these are few
+pub drafts_short : (spec : Spec) (d : Draft) (lines : List CertLine) → IsWellFormed spec → case_count spec ≤ 100000 → d.lines ≡ lines → Drafts spec (pairs_of spec) d → AreShort lines
+drafts_short spec d lines wf few is h =
+    let zip : length d.lines ≡ length (flat_map (cases_at spec) (pairs_of spec)) = AllZip-long (λ k l. line_fits spec (derived_plan spec) k l ≡ true) (flat_map (cases_at spec) (pairs_of spec)) d.lines h.lines in
+    let cases : length (flat_map (cases_at spec) (pairs_of spec)) ≡ length (touched_cases spec) = ap length (all_cases spec) in
+    let counted : length (touched_cases spec) ≤ case_count spec = few_touched spec wf in
+    subst AreShort is (record { few_lines = omega (arith, zip, cases, counted, few); few_steps = h.short })
 
 pub drafts_go : (spec : Spec) (d : Draft) → Drafts spec (pairs_of spec) d → find (ends spec) (touched_cases spec) ≡ None
 drafts_go spec d h = ap (find (ends spec)) (sym (all_cases spec)) ∙ h.goes

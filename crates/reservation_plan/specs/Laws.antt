@@ -1,6 +1,7 @@
 -- What the derived plan says of conflicting cases.
 use Rattle.std.specs.Prelude.{◌≡◌, ◌≤◌, ◌<◌, ◌↔◌, ℕ, true, ◌++◌, length, Contains}
-use Rattle.ground_clauses.specs.Cases.{pair_cases}
+use Rattle.ground_clauses.specs.Cases.{pair_cases, touched_cases}
+use Rattle.ground_clauses.specs.Counting.{case_count}
 use Rattle.ground_clauses.specs.Conflicting.{IsConflicting, IsTouchedCase}
 use Rattle.ground_clauses.specs.declared.case.Case.{Case}
 use Rattle.reservation_plan.specs.Conflicts.{is_conflicting}
@@ -30,3 +31,7 @@ pub record InConflict (spec : Spec) (a b : ℕ) : Type 0 where
 -- The derived plan has a reservation for two operations exactly where some case of theirs is conflicting.
 abbrev pub ReservesConflicts : Type 0
 ReservesConflicts = (spec : Spec) (a b : ℕ) → IsWellFormed spec → a ≤ b → b < length spec.ops → Reserves (derived_plan spec) a b ↔ InConflict spec a b
+
+-- The touched cases are no more than all that are counted.
+abbrev pub TouchedAreCounted : Type 0
+TouchedAreCounted = (spec : Spec) → IsWellFormed spec → length (touched_cases spec) ≤ case_count spec

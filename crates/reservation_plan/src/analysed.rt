@@ -36,7 +36,7 @@ pub enum DeriveError {
     TooHard {
         variables: u32,
     },
-    /// There was no memory.
+    /// There was no memory, or a derivation has more steps than can be numbered.
     #[error("out of memory")]
     Memory,
 }

@@ -11,6 +11,7 @@ use crate::analysed::DeriveError;
 use crate::judging::{Judged, judge_pair};
 use crate::reserving::{Conflict, Reservation, reserve};
 use certificate_check::{CertLine, lock_fits, shares};
+use ground_clauses::Queries;
 use ind_base::{List, NoMemory};
 use spec_model::{LockKind, Pair, Spec};
 use std::alloc::Global;
@@ -94,11 +95,12 @@ impl Draft {
     }
 
     /// Adds a pair of operations: its reservation, and the lines of its cases.
-    pub(crate) fn add_pair(
+    pub(crate) fn add_pair<'a>(
         &mut self,
         alloc: Global,
-        spec: &Spec,
+        spec: &'a Spec,
         pair: Pair,
+        queries: &mut Queries<'a>,
     ) -> Result<(), DeriveError>
         requires well_formed { IsWellFormed spec.now }
         requires known_a { pair.a < length spec.now.ops }
@@ -108,7 +110,7 @@ impl Draft {
         ensures ok { IfOk result (λ _. AddsPair spec.now pair self.old self.new) }
         ensures err { IfErr result (λ e. Refuses spec.now (pair_cases spec.now pair.a pair.b) e) }
     {
-        let judgements = judge_pair(alloc, spec, pair)?;
+        let judgements = judge_pair(alloc, spec, pair, queries)?;
         let conflict = Conflict {
             spec,
             a: pair.a,

@@ -10,13 +10,14 @@ ghost use Rattle.spec_model.specs.Fits.{IsWellFormed};
 
 use crate::analysed::DeriveError;
 use clause_solver::SolveError;
-use conflict_pairs::{Decided, decide};
-use ground_clauses::{Case, Derivation, cases};
+use conflict_pairs::{Decided, decide_in};
+use ground_clauses::{Case, Derivation, Queries, cases};
 use ind_base::{List as Items, NoMemory};
 use spec_model::{Pair, Spec};
 use std::alloc::Global;
 
-/// The most steps of a derivation in a certificate.
+/// The most steps of a derivation in a certificate. No law rules out more: how many clauses the
+/// solver learns has no useful bound.
 const MOST_STEPS: usize = 4294967294;
 
 /// What is found of a case: that it is conflicting, by a model where it is about a clause, or a
@@ -28,14 +29,19 @@ enum Finding {
 }
 
 /// Decides a case.
-fn find_out(alloc: Global, spec: &Spec, case: &Case) -> Result<Finding, DeriveError>
+fn find_out<'a>(
+    alloc: Global,
+    spec: &'a Spec,
+    case: &Case,
+    queries: &mut Queries<'a>,
+) -> Result<Finding, DeriveError>
     requires well_formed { IsWellFormed spec.now }
     requires touched { IsTouchedCase spec.now case.now }
     ensures finding { IfOk result (λ found. IsFinding spec.now case.now found) }
     ensures easy { IfOk result (λ _. is_hard spec.now case.now ≡ false) }
     ensures cause { IfErr result (λ e. Refuses spec.now (case.now ∷ []) e) }
 {
-    match decide(alloc, spec, case) {
+    match decide_in(alloc, spec, case, queries) {
         Ok(Decided::Opposes) => Ok(Finding::Conflicts(None)),
         Ok(Decided::Model(model)) => Ok(Finding::Conflicts(Some(model))),
         Ok(Decided::Refuted(derivation)) => if derivation.steps.len() <= MOST_STEPS {
@@ -109,20 +115,34 @@ impl Judgements {
         Ok(())
     }
 
+    /// Whether a conflicting case ends the analysis, whatever was found before: the author declares
+    /// its operations free.
+    fn refuses(&self, spec: &Spec, case: &Case) -> bool
+        ensures { result ≡ ending.is_declared_free spec.now case.now.a case.now.b }
+    {
+        is_declared_free(spec, case.a, case.b)
+    }
+
     /// Judges a case behind the others.
-    fn judge(&mut self, alloc: Global, spec: &Spec, case: &Case) -> Result<(), DeriveError>
+    fn judge<'a>(
+        &mut self,
+        alloc: Global,
+        spec: &'a Spec,
+        case: &Case,
+        queries: &mut Queries<'a>,
+    ) -> Result<(), DeriveError>
         requires well_formed { IsWellFormed spec.now }
         requires touched { IsTouchedCase spec.now case.now }
         ensures ok { IfOk result (λ _. JudgesMore spec.now case.now self.old self.new) }
         ensures err { IfErr result (λ e. Refuses spec.now (case.now ∷ []) e) }
     {
-        match find_out(alloc, spec, case)? {
+        match find_out(alloc, spec, case, queries)? {
             Finding::Harmless(derivation) => {
                 self.add_harmless(case, derivation)?;
                 Ok(())
             }
             Finding::Conflicts(model) => {
-                if is_declared_free(spec, case.a, case.b) {
+                if self.refuses(spec, case) {
                     return Err(DeriveError::Rejected { case: *case, model });
                 }
                 self.add_conflict(alloc, case)?;
@@ -133,7 +153,12 @@ impl Judgements {
 }
 
 /// Judges the touched cases of a pair of operations, in canonical order.
-pub(crate) fn judge_pair(alloc: Global, spec: &Spec, pair: Pair) -> Result<Judgements, DeriveError>
+pub(crate) fn judge_pair<'a>(
+    alloc: Global,
+    spec: &'a Spec,
+    pair: Pair,
+    queries: &mut Queries<'a>,
+) -> Result<Judgements, DeriveError>
     requires well_formed { IsWellFormed spec.now }
     requires known_a { pair.a < length spec.now.ops }
     requires known_b { pair.b < length spec.now.ops }
@@ -143,7 +168,7 @@ pub(crate) fn judge_pair(alloc: Global, spec: &Spec, pair: Pair) -> Result<Judge
     let mut judgements = Judgements::none(alloc);
     let mut left = cases(alloc, spec, pair.a, pair.b)?;
     'going: while let Some(case) = left.next() {
-        judgements.judge(alloc, spec, &case)?;
+        judgements.judge(alloc, spec, &case, queries)?;
     }
     Ok(judgements)
 }

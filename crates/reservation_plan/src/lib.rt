@@ -10,5 +10,5 @@ mod planning;
 mod reserving;
 
 pub use analysed::{Analysed, DeriveError};
-pub use laws::{reserves_conflicts, tells_conflicts};
+pub use laws::{reserves_conflicts, tells_conflicts, touched_are_counted};
 pub use planning::derive;

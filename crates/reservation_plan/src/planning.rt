@@ -18,16 +18,13 @@ ghost use Rattle.spec_model.specs.Stable.{IsStable};
 use crate::analysed::{Analysed, DeriveError};
 use crate::drafting::Draft;
 use certificate_check::Certificate;
-use ground_clauses::case_count;
+use ground_clauses::{Queries, case_count};
 use ind_base::{List, NoMemory};
 use spec_model::{Pair, Plan, Spec};
 use std::alloc::Global;
 
 /// The most cases, touched or not.
 const MOST_CASES: u128 = 100_000;
-
-/// The most lines of a certificate.
-const MOST_LINES: usize = 4294967294;
 
 /// Adds the pairs of an operation with itself and those behind it.
 fn add_row(spec: &Spec, a: u32, pairs: &mut List<Pair>) -> Result<(), NoMemory>
@@ -60,8 +57,9 @@ fn draft_all(alloc: Global, spec: &Spec) -> Result<Draft, DeriveError>
 {
     let pairs = pairs_of(alloc, spec)?;
     let mut draft = Draft::none(alloc);
+    let mut queries = Queries::new(alloc);
     for pair in pairs.as_slice() {
-        draft.add_pair(alloc, spec, *pair)?;
+        draft.add_pair(alloc, spec, *pair, &mut queries)?;
     }
     Ok(draft)
 }
@@ -82,7 +80,8 @@ fn marked(alloc: Global, spec: &Spec) -> Result<List<u32>, NoMemory>
 
 /// The plan and the certificate of a specification with few cases.
 fn analyse(alloc: Global, spec: &Spec) -> Result<Analysed, DeriveError>
-    requires { IsWellFormed spec.now }
+    requires well_formed { IsWellFormed spec.now }
+    requires few { counting.case_count spec.now ≤ 100000 }
     ensures plan { IfOk result (λ x. x.plan ≡ derived_plan spec.now) }
     ensures checks { IfOk result (λ x. Checks spec.now x.plan x.certificate) }
     ensures short { IfOk result (λ x. AreShort x.certificate.lines) }
@@ -94,9 +93,6 @@ fn analyse(alloc: Global, spec: &Spec) -> Result<Analysed, DeriveError>
         parts,
         lines,
     } = draft_all(alloc, spec)?;
-    if lines.len() > MOST_LINES {
-        return Err(DeriveError::Memory);
-    }
     let masks = marked(alloc, spec)?;
     Ok(Analysed {
         plan: Plan {

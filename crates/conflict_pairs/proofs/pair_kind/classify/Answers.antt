@@ -9,7 +9,7 @@ pub returns-in_err-decided-clause-cause : goal.returns-in_err-decided-clause-cau
 returns-in_err-decided-clause-cause c = λ n is.
     let p = err_from_is_err_and c.from_residual-in_err-decided.result c.from_residual-in_err-decided.ensures.1 in
     ends_stuck c.args.spec.now (pair_cases c.args.spec.now c.args.a c.args.b) c.going.opposing c.going.left c.in-Some.case c.next.new.self n c.going.invariant c.in-Some.ensures.steps
-    (c.decide.ensures.cause n (handed_on c.from_residual-in_err-decided.result c.decide.result p.0 c.in_err-decided.field-0.0 (errors.TooHard n) p.1 p.2 c.in_err-decided.was is))
+    (c.decide_in.ensures.cause n (handed_on c.from_residual-in_err-decided.result c.decide_in.result p.0 c.in_err-decided.field-0.0 (errors.TooHard n) p.1 p.2 c.in_err-decided.was is))
 
 pub returns-in-Ends-clause-kind : goal.returns-in-Ends-clause-kind
 returns-in-Ends-clause-kind c =

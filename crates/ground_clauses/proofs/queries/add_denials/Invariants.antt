@@ -5,4 +5,4 @@ use Rattle.ground_clauses.proofs.queries.add_denials.Given as goal
 
 abbrev pub invariant-loop-literal : goal.invariant-loop-literal
 invariant-loop-literal l =
-    l.clauses ++ flat_map (denial_clauses l.asked l.classes l.sign) (drop l.literal-index l.literals) ≡ l.fn.clauses ++ flat_map (denial_clauses l.asked l.classes l.sign) l.literals
+    l.draft.cnf.clauses ++ flat_map (denial_clauses l.looking.asked l.classes l.sign) (drop l.literal-index l.literals) ≡ l.fn.draft.cnf.clauses ++ flat_map (denial_clauses l.looking.asked l.classes l.sign) l.literals

@@ -6,11 +6,11 @@ use Rattle.ground_clauses.proofs.queries.add_hypotheses.Goals as goal
 
 pub loop-instance-preserved : goal.loop-instance-preserved
 loop-instance-preserved c =
-    let made = instance_clauses c.args.asked.now in
-    let rest = flat_map (instance_clauses c.args.asked.now) (drop (c.loop-instance.instance-index + 1) c.args.instances.now) in
+    let made = instance_clauses c.args.looking.now.asked in
+    let rest = flat_map (instance_clauses c.args.looking.now.asked) (drop (c.loop-instance.instance-index + 1) c.args.instances.now) in
     ap (λ xs. xs ++ rest) c.in_ok-add_hypothesis.ensures
-    ∙ append_assoc c.loop-instance.clauses (made c.instance-item.result) rest
-    ∙ ap (λ xs. c.loop-instance.clauses ++ xs)
+    ∙ append_assoc c.loop-instance.draft.cnf.clauses (made c.instance-item.result) rest
+    ∙ ap (λ xs. c.loop-instance.draft.cnf.clauses ++ xs)
     (ap (λ x. made x ++ rest) c.instance-item.is
-    ∙ sym (instances_step c.args.asked.now c.args.instances.now c.loop-instance.instance-index c.instance-item.result c.loop-instance-test.true))
+    ∙ sym (instances_step c.args.looking.now.asked c.args.instances.now c.loop-instance.instance-index c.instance-item.result c.loop-instance-test.true))
     ∙ c.loop-instance.invariant

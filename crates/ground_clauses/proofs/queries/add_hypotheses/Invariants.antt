@@ -4,4 +4,4 @@ use Rattle.ground_clauses.specs.Asking.{instance_clauses}
 use Rattle.ground_clauses.proofs.queries.add_hypotheses.Given as goal
 
 abbrev pub invariant-loop-instance : goal.invariant-loop-instance
-invariant-loop-instance l = l.clauses ++ flat_map (instance_clauses l.asked) (drop l.instance-index l.instances) ≡ l.fn.clauses ++ flat_map (instance_clauses l.asked) l.instances
+invariant-loop-instance l = l.draft.cnf.clauses ++ flat_map (instance_clauses l.looking.asked) (drop l.instance-index l.instances) ≡ l.fn.draft.cnf.clauses ++ flat_map (instance_clauses l.looking.asked) l.instances

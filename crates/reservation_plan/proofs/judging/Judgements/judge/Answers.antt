@@ -11,6 +11,6 @@ returns-in_ok-add_harmless-in-Harmless-clause-ok c =
 
 pub returns-in_ok-add_conflict-in-Conflicts-clause-ok : goal.returns-in_ok-add_conflict-in-Conflicts-clause-ok
 returns-in_ok-add_conflict-in-Conflicts-clause-ok c =
-    conflict_more c.args.spec.now c.args.case.now c.args.self.now c.add_conflict.new.self c.in_ok-derivation.ensures.easy (sym c.is_declared_free.ensures ∙ c.if-is_declared_free.false)
+    conflict_more c.args.spec.now c.args.case.now c.args.self.now c.add_conflict.new.self c.in_ok-derivation.ensures.easy (sym c.refuses.ensures ∙ c.if-refuses.false)
     (found_conflict c.args.spec.now c.args.case.now c.in_ok-derivation.field-0 c.in-Conflicts.model c.in-Conflicts.is c.in_ok-derivation.ensures.finding).0
     c.in_ok-add_conflict-in-Conflicts.ensures

@@ -1,0 +1,56 @@
+//! Where atoms may stand in a list.
+
+ghost use Rattle.std.specs.Prelude.{◌<◌};
+
+use ind_base::NoMemory;
+use spec_model::Atom;
+use std::alloc::Global;
+
+/// For each atom, by a number that is made of it, a place at which it may stand in a list. What is
+/// named is tried and never relied on, so the places stay as they are where a new list begins.
+#[derive(Debug, Drop)]
+pub(crate) struct Slots {
+    places: Vec<usize>,
+}
+
+/// One of an atom's classes, of which there are at most twelve.
+fn class_of(args: &[u32], at: usize) -> usize
+    ensures { result < 12 }
+{
+    (args.get(at).copied().unwrap_or(0) % 12) as usize
+}
+
+/// A number of its own for each atom with at most three classes below twelve.
+fn code_of(atom: &Atom) -> usize
+    ensures { result < 110592 }
+{
+    let args = atom.args.as_slice();
+    let pred = (atom.pred % 64) as usize;
+    ((pred * 12 + class_of(args, 0)) * 12 + class_of(args, 1)) * 12 + class_of(args, 2)
+}
+
+impl Slots {
+    /// No place was noted.
+    pub(crate) fn new(alloc: Global) -> Slots {
+        Slots {
+            places: Vec::new(alloc),
+        }
+    }
+
+    /// The place that was noted last for the atom, if any was.
+    pub(crate) fn hint(&self, atom: &Atom) -> usize {
+        self.places.get(code_of(atom)).copied().unwrap_or(0)
+    }
+
+    /// Notes the place of an atom.
+    pub(crate) fn note(&mut self, atom: &Atom, place: usize) -> Result<(), NoMemory> {
+        let code = code_of(atom);
+        for _ in self.places.len()..code + 1 {
+            self.places.push(0)?;
+        }
+        if let Some(slot) = self.places.get_mut(code) {
+            *slot = place;
+        }
+        Ok(())
+    }
+}
