@@ -18,7 +18,7 @@ use Rattle.spec_model.specs.Fits.{IsWellFormed}
 use Rattle.spec_model.specs.Universe.{cells}
 use Rattle.run_model.specs.declared.step.StepEntry.{StepEntry}
 use Rattle.run_model.specs.Balance.{AcceptsOwn, accepts, held_in, in_flight, is_accepted}
-use Rattle.run_model.specs.Fitting.{BodyFits, ItemFits, RightFits}
+use Rattle.run_model.specs.Fitting.{BodyFits, ItemFits, MessageFits, RightFits}
 use Rattle.run_model.specs.Logs.{AreLogs, IsConsistent, IsIn, Logs, item_at, items_in, log_at}
 use Rattle.run_model.specs.Rights.{held_count, out_gives}
 use Rattle.run_model.specs.Runs.{Runs}
@@ -40,6 +40,7 @@ use Rattle.replica_core.specs.Heeded.{CanAccept, held_after}
 use Rattle.replica_core.specs.Laws.{MessagesAreHeeded}
 use Rattle.replica_core.specs.Replicas.{known_to, standing_of}
 use Rattle.replica_core.specs.declared.replica.Replica.{Replica}
+use Rattle.replica_core.proofs.Sent.{messages_fit}
 use Rattle.replica_core.proofs.Holding.{all_created, few_items, first_keeps_bounds, first_small, term_small}
 use Rattle.replica_core.proofs.Lists.{take_at}
 use Rattle.replica_core.proofs.Logged.{count_at}
@@ -215,13 +216,14 @@ gives_of_cell setup r before item cell fits differs = by_body item.body refl fit
 
 -- so a message is heeded whole
 pub messages_heeded : MessagesAreHeeded
-messages_heeded setup entries world r stamp sendings from number sent message well few some runs stands short hears is fits =
+messages_heeded setup entries world r stamp sendings from number sent message well lower asked few some runs stands short hears is =
+    let fits = messages_fit setup entries world r.me from number sent message well lower asked runs short hears is in
     let kept = kept_from_first setup entries world runs in
     let named = hears.1 ∙ sym hears.2 in
     let f = heard_from setup.replicas world from number r.me sent kept named in
     let what : IsSentTo from f.0.log sent.to (Some message) = subst (λ m. IsSentTo from f.0.log sent.to m) is f.2 in
     let part : IsPart (log_at (logs_of world) from) message.items = subst (λ (l : List LogItem). IsPart l message.items) (sym (logs_there world from f.0 f.1)) what.1 in
-    (heeds_itself setup r message fits (λ k item there. can k item there part), λ heeded heeds. heeded_whole setup r message heeded fits (λ k item there. can k item there part) heeds)
+    (heeds_itself setup r message fits (λ k item there. can fits k item there part), λ heeded heeds. heeded_whole setup r message heeded fits (λ k item there. can fits k item there part) heeds)
   where
     front_part : (log : List LogItem) (k : ℕ) (item : LogItem) → slice_get message.items k ≡ Some item → IsPart log message.items → IsPart log (take k message.items ++ item ∷ [])
     front_part log k item there part =
@@ -233,8 +235,8 @@ messages_heeded setup entries world r stamp sendings from number sent message we
           is = part.is ∙ ap (λ (l : List LogItem). part.front ++ (l ++ part.behind)) halves ∙ ap (λ (l : List LogItem). part.front ++ l) (append_assoc (take k items ++ item ∷ []) (drop (k + 1) items) part.behind);
         }
 
-    can : (k : ℕ) (item : LogItem) → slice_get message.items k ≡ Some item → IsPart (log_at (logs_of world) from) message.items → CanAccept setup r (take k message.items) item
-    can k item there part cell differs =
+    can : MessageFits setup.spec setup.replicas r.me message → (k : ℕ) (item : LogItem) → slice_get message.items k ≡ Some item → IsPart (log_at (logs_of world) from) message.items → CanAccept setup r (take k message.items) item
+    can fits k item there part cell differs =
         let fit : ItemFits setup.spec setup.replicas item = each_at (ItemFits setup.spec setup.replicas) message.items k item fits.items there in
         let known = gives_of_cell setup r (take k message.items) item cell fit.body differs in
         bearable setup entries world r.me from (record { standing = standing_of stamp sendings r; known = known_to r }) cell (take k message.items ++ item ∷ []) well few some runs stands short known (front_part (log_at (logs_of world) from) k item there part)

@@ -3,6 +3,7 @@ use Rattle.std.proofs.Common.{◌≡◌, ℕ, ◌+◌, ◌<◌, ◌≤◌, Bool,
 use Rattle.std.specs.Prelude.{not}
 use Rattle.std.specs.List.{AllByRecursion}
 use Rattle.spec_model.specs.declared.plan.Setup.{Setup}
+use Rattle.spec_model.specs.declared.spec.Spec.{Spec}
 use Rattle.spec_model.specs.declared.log.Body.{Body}
 use Rattle.spec_model.specs.declared.log.LogItem.{LogItem}
 use Rattle.spec_model.specs.declared.right.Need.{Need}
@@ -34,19 +35,26 @@ filter_short {X} p (x ∷ xs) = let rest = filter_short p xs in by_test (p x) re
     by_test true rest = omega (arith, rest)
     by_test false rest = omega (arith, rest)
 
+-- the wants that aren't met fit as all did
+pub still_fit : (spec : Spec) (holds : Need → Held) (wants : List Want) → AllByRecursion (WantFits spec) wants → AllByRecursion (WantFits spec) (still_wanted holds wants)
+still_fit spec holds wants all =
+    let test : Want → Bool = λ want. not (is_met holds (need_of want)) in
+    each_weaker (λ (w : Want). WantFits spec w × (test w ≡ true)) (WantFits spec) (λ w h. h.0) (filter test wants) (each_filter (WantFits spec) test wants all)
+
+-- and are no more
+pub still_few : (holds : Need → Held) (wants : List Want) → length (still_wanted holds wants) ≤ length wants
+still_few holds wants = filter_short (λ (w : Want). not (is_met holds (need_of w))) wants
+
 -- without the wants that are met it is a replica still
 pub dropped_own : (setup : Setup) (mid : Replica) (wants : List Want) → IsReplica setup mid.me mid → wants ≡ still_wanted (holds_of setup mid) mid.wants → IsReplica setup mid.me (record mid { wants = wants })
 dropped_own setup mid wants own is =
-    let test : Want → Bool = λ want. not (is_met (holds_of setup mid) (need_of want)) in
-    let short = filter_short test mid.wants in
-    let both = each_filter (WantFits setup.spec) test mid.wants own.wants in
     let new : Replica = record mid { wants = wants } in
     heard_replica setup mid.me mid new own (record {
       wants = wants;
       told = mid.told;
       is = refl;
-      fit = subst (AllByRecursion (WantFits setup.spec)) (sym is) (each_weaker (λ (w : Want). WantFits setup.spec w × (test w ≡ true)) (WantFits setup.spec) (λ w h. h.0) (filter test mid.wants) both);
-      few = omega (arith, ap length is, short, own.few_wants);
+      fit = subst (AllByRecursion (WantFits setup.spec)) (sym is) (still_fit setup.spec (holds_of setup mid) mid.wants own.wants);
+      few = omega (arith, ap length is, still_few (holds_of setup mid) mid.wants, own.few_wants);
       whole = own.told;
       each = own.told_each;
     })
@@ -54,20 +62,20 @@ dropped_own setup mid wants own is =
 -- with some of its wants in another order it is a replica still
 pub kept_few : (setup : Setup) (old : Replica) (wants : List Want) (k : ℕ) → length old.wants ≤ 8 → k < length old.wants → wants ≡ drop (k + 1) old.wants ++ still_wanted (holds_of setup old) (take k old.wants) → length wants < 8
 kept_few setup old wants k few lt is =
-    let short = filter_short (λ (w : Want). not (is_met (holds_of setup old) (need_of w))) (take k old.wants) in
+    let short = still_few (holds_of setup old) (take k old.wants) in
     omega (arith, few, lt, ap length is, length-append (drop (k + 1) old.wants) (still_wanted (holds_of setup old) (take k old.wants)), length-drop (k + 1) old.wants, short, length-take k old.wants)
 
 pub keeps_own : (setup : Setup) (old : Replica) (wants : List Want) (k : ℕ) → IsReplica setup old.me old → k < length old.wants → wants ≡ drop (k + 1) old.wants ++ still_wanted (holds_of setup old) (take k old.wants) → IsReplica setup old.me (record old { wants = wants })
 keeps_own setup old wants k own lt is =
-    let test : Want → Bool = λ w. not (is_met (holds_of setup old) (need_of w)) in
     let fit : Want → Type 0 = WantFits setup.spec in
-    let seen : AllByRecursion fit (filter test (take k old.wants)) = each_weaker (λ (w : Want). fit w × (test w ≡ true)) fit (λ w h. h.0) (filter test (take k old.wants)) (each_filter fit test (take k old.wants) (each_take fit k old.wants own.wants)) in
+    let rest : List Want = still_wanted (holds_of setup old) (take k old.wants) in
+    let seen : AllByRecursion fit rest = still_fit setup.spec (holds_of setup old) (take k old.wants) (each_take fit k old.wants own.wants) in
     let few = kept_few setup old wants k own.few_wants lt is in
     heard_replica setup old.me old (record old { wants = wants }) own (record {
       wants = wants;
       told = old.told;
       is = refl;
-      fit = subst (AllByRecursion fit) (sym is) (each_append fit (drop (k + 1) old.wants) (filter test (take k old.wants)) (each_dropped fit (k + 1) old.wants own.wants) seen);
+      fit = subst (AllByRecursion fit) (sym is) (each_append fit (drop (k + 1) old.wants) rest (each_dropped fit (k + 1) old.wants own.wants) seen);
       few = omega (arith, few);
       whole = own.told;
       each = own.told_each;

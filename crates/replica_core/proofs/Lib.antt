@@ -18,4 +18,6 @@ pub mod Silent
 pub mod Sending
 pub mod Holding
 pub mod Looking
+pub mod Fitted
+pub mod Sent
 pub mod Bearing

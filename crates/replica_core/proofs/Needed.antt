@@ -103,7 +103,7 @@ lacking_fits P h (need ∷ needs) l all is = by_test (is_met h need) (λ later. 
 
 -- ---- wants
 
-want_fits : (spec : Spec) (need : Need) → NeedFits spec need → WantFits spec (want_of need)
+pub want_fits : (spec : Spec) (need : Need) → NeedFits spec need → WantFits spec (want_of need)
 want_fits spec need h = subst (λ m. WantFits spec (want_of m)) (sym h.3) (record { of = (h.2, h.5); much = h.4 })
 
 replaced_fit : (P : Want → Type 0) (wants : List Want) (want : Want) → AllByRecursion P wants → P want → AllByRecursion P (replaced wants want)
@@ -120,11 +120,11 @@ length_dropped zero xs = omega arith
 length_dropped (suc k) [] = omega arith
 length_dropped (suc k) (x ∷ xs) = let rest = length_dropped k xs in omega (arith, rest)
 
-noted_fit : (P : Want → Type 0) (wants : List Want) (want : Want) → AllByRecursion P wants → P want → AllByRecursion P (noted wants want)
+pub noted_fit : (P : Want → Type 0) (wants : List Want) (want : Want) → AllByRecursion P wants → P want → AllByRecursion P (noted wants want)
 noted_fit P wants want all h = cond_both (list_any (is_on want.right) wants) (replaced wants want) (behind wants want) (AllByRecursion P)
     (λ old. replaced_fit P wants want all h) (λ new. each_dropped P (length wants - 7) (wants ++ want ∷ []) (each_append P wants (want ∷ []) all (h, tt)))
 
-noted_few : (wants : List Want) (want : Want) → length wants ≤ 8 → length (noted wants want) ≤ 8
+pub noted_few : (wants : List Want) (want : Want) → length wants ≤ 8 → length (noted wants want) ≤ 8
 noted_few wants want few = cond_both (list_any (is_on want.right) wants) (replaced wants want) (behind wants want) (λ (l : List Want). length l ≤ 8)
     (λ old. let same = length-map wants (λ (w : Want). cond (is_on want.right w) want w) in omega (arith, same, few))
     (λ new. let long = length_dropped (length wants - 7) (wants ++ want ∷ []) in let one = length_push wants want in omega (arith, long, one, few))

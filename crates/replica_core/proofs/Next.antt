@@ -2,6 +2,7 @@
 use Rattle.std.proofs.Common.{◌≡◌, ℕ, zero, suc, ◌+◌, ◌-◌, ◌/◌, ◌<◌, ◌≤◌, ◌^◌, min, Bool, true, false, cond, List, [], ◌∷◌, ◌++◌, length, get_or, map, refl, sym, ap, subst, ◌∙◌, arith, length-append}
 use Rattle.std.specs.Prelude.{Some, None, Option, Contains, sum_by, slice_get, ◌==◌}
 use Rattle.std.specs.List.{AllByRecursion}
+use Rattle.std.proofs.lemmas.Bool.{cond_both}
 use Rattle.std.proofs.lemmas.List.{append_assoc, append-nil}
 use Rattle.spec_model.specs.declared.plan.Setup.{Setup}
 use Rattle.spec_model.specs.declared.spec.Spec.{Spec}
@@ -24,7 +25,7 @@ use Rattle.run_model.specs.Worlds.{Standing, Sending, holding, logged, logged_al
 use Rattle.run_model.specs.Steps.{accept_of, accepts_of, answered, given}
 use Rattle.run_model.specs.Wants.{need_of, piece_for}
 use Rattle.run_model.specs.Fitting.{AskFits, BodyFits, ItemFits, RightFits, WantFits}
-use Rattle.run_model.proofs.Lists.{each_append, each_at}
+use Rattle.run_model.proofs.Lists.{each_append, each_at, each_weaker}
 use Rattle.run_model.proofs.Escrow.{same_right_is}
 use Rattle.run_model.proofs.Agreed.{AllAgree, gains_all_agree}
 use Rattle.causal_store.specs.Stores.{IsStore}
@@ -105,19 +106,33 @@ free_next setup logs me (b ∷ bodies) p all = (
   free_next setup logs me bodies (logged me b p) all.1,
 )
 
+-- what holds of an Accept of each item holds of the Accepts of those that are given to this replica
+pub accepts_each : (P : Body → Type 0) (me : ℕ) (items : List LogItem) → AllByRecursion (λ x. P (body.Accept x.origin x.index)) items → AllByRecursion P (accepts_of me items)
+accepts_each P me [] all = tt
+accepts_each P me (x ∷ items) all = each_append P (accept_of me x.origin x.index x.body) (accepts_of me items) (of_body x.body) (accepts_each P me items all.1)
+  where
+    of_body : (b : Body) → AllByRecursion P (accept_of me x.origin x.index b)
+    of_body (body.Act inst) = tt
+    of_body (body.Out to r given) = cond_both (to == me) (body.Accept x.origin x.index ∷ []) [] (AllByRecursion P) (λ mine. (all.0, tt)) (λ others. tt)
+    of_body (body.Accept from at) = tt
+
+-- the Accepts of items that fit do
+pub accepts_fit : (spec : Spec) (replicas me : ℕ) (items : List LogItem) → AllByRecursion (ItemFits spec replicas) items → AllByRecursion (BodyFits spec replicas) (accepts_of me items)
+accepts_fit spec replicas me items fit =
+    accepts_each (BodyFits spec replicas) me items (each_weaker (ItemFits spec replicas) (λ (x : LogItem). BodyFits spec replicas (body.Accept x.origin x.index)) (λ x h. (h.origin, h.small)) items fit)
+
 -- the Accepts of applied items lose nothing
 pub accepts_free : (setup : Setup) (logs : Logs) (me : ℕ) (items : List LogItem) → AllByRecursion (ItemFits setup.spec setup.replicas) items → AllByRecursion (λ x. IsKnown logs me (body.Accept x.origin x.index)) items → AllByRecursion (IsFree setup logs me) (accepts_of me items)
-accepts_free setup logs me [] fit all = tt
-accepts_free setup logs me (x ∷ items) fit all = each_append (IsFree setup logs me) (accept_of me x.origin x.index x.body) (accepts_of me items) (of_body x.body) (accepts_free setup logs me items fit.1 all.1)
+accepts_free setup logs me items fit all = accepts_each (IsFree setup logs me) me items (both items fit all)
   where
-    of_body : (b : Body) → AllByRecursion (IsFree setup logs me) (accept_of me x.origin x.index b)
-    of_body (body.Act inst) = tt
-    of_body (body.Out to r given) = by_test (to == me)
-      where
-        by_test : (t : Bool) → AllByRecursion (IsFree setup logs me) (cond t (body.Accept x.origin x.index ∷ []) [])
-        by_test true = (((fit.0.origin, fit.0.small), all.0, λ r. refl), tt)
-        by_test false = tt
-    of_body (body.Accept from at) = tt
+    both : (items : List LogItem) → AllByRecursion (ItemFits setup.spec setup.replicas) items → AllByRecursion (λ x. IsKnown logs me (body.Accept x.origin x.index)) items → AllByRecursion (λ x. IsFree setup logs me (body.Accept x.origin x.index)) items
+    both [] fit all = tt
+    both (x ∷ items) fit all = (((fit.0.origin, fit.0.small), all.0, λ r. refl), both items fit.1 all.1)
+
+-- what is next fits
+pub next_bodies : (setup : Setup) (logs : Logs) (me : ℕ) (bodies : List Body) (p : Standing) → AreNext setup logs me p (items_for me bodies p) → AllByRecursion (BodyFits setup.spec setup.replicas) bodies
+next_bodies setup logs me [] p next = tt
+next_bodies setup logs me (b ∷ bodies) p next = (next.0.fits, next_bodies setup logs me bodies (logged me b p) next.1)
 
 -- ---- the items that answer wants
 

@@ -264,8 +264,8 @@ logs_short n (log ∷ logs) h = (h 0, logs_short n logs (λ j. h (suc j)))
 
 -- ---- what a replica is once it has replayed a batch
 
-logged_keeps : (me : ℕ) (bodies : List Body) (p : Standing) → ((logged_all me bodies p).wants ≡ p.wants) × ((logged_all me bodies p).told ≡ p.told)
-logged_keeps me [] p = (refl, refl)
+pub logged_keeps : (me : ℕ) (bodies : List Body) (p : Standing) → ((logged_all me bodies p).wants ≡ p.wants) × ((logged_all me bodies p).told ≡ p.told) × ((logged_all me bodies p).sendings ≡ p.sendings)
+logged_keeps me [] p = (refl, refl, refl)
 logged_keeps me (b ∷ bodies) p = logged_keeps me bodies (logged me b p)
 
 pub has_replayed : (setup : Setup) (items front own : List LogItem) (old learned new : Replica) → Replays setup old items front own → HasLearned setup.spec front old learned → HasLoggedAll setup (map (λ (i : LogItem). i.body) own) learned new → HasReplayed setup items old new

@@ -1,6 +1,6 @@
 //! Laws of runs and of requests, for callers to cite.
 
-ghost use Rattle.replica_core.specs.Laws.{BreaksChangeNothing, FirstsKeepBounds, HoldsAreSmall, MessagesAreHeeded};
+ghost use Rattle.replica_core.specs.Laws.{BreaksChangeNothing, FirstsKeepBounds, HoldsAreSmall, MessagesAreHeeded, MessagesFit};
 
 /// Each cell begins within its bounds.
 pub fn firsts_keep_bounds()
@@ -13,8 +13,15 @@ pub fn holds_are_small()
     ensures { HoldsAreSmall }
 {}
 
-/// A replica heeds whole what was sent to it, in a run of at most eight replicas that log at most
-/// 2^22 items each.
+/// What was sent to a replica fits it, in a run without upper bounds whose replicas log at most
+/// 2^22 items each, where each instance that was asked for fits the specification.
+pub fn messages_fit()
+    ensures { MessagesFit }
+{}
+
+/// A replica heeds whole what was sent to it, in a run without upper bounds of at most eight
+/// replicas that log at most 2^22 items each, where each instance that was asked for fits the
+/// specification.
 pub fn messages_are_heeded()
     ensures { MessagesAreHeeded }
 {}

@@ -1,4 +1,4 @@
-use Rattle.std.proofs.Common.{◌≤◌, [], List, length, replicate, ap, ◌∙◌, subst, arith}
+use Rattle.std.proofs.Common.{[], List, length, replicate, ap, ◌∙◌, subst, arith}
 use Rattle.run_model.specs.declared.batch.Batch.{Batch}
 use Rattle.causal_store.specs.Agreeing.{with_all}
 use Rattle.replica_core.specs.Replicas.{IsReplica}
