@@ -7,3 +7,4 @@ pub mod Admitted
 pub mod Answered
 pub mod Sent
 pub mod EverySchedule
+pub mod Counted

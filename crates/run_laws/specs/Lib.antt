@@ -1,2 +1,3 @@
 pub mod OneRun
 pub mod EverySchedule
+pub mod Stamps
