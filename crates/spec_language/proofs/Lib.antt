@@ -7,3 +7,4 @@ pub mod Formed
 pub mod SaidAgain
 pub mod ReadingSpecs
 pub mod OpNames
+pub mod Twins

@@ -279,7 +279,7 @@ impl SpecDraft {
         ensures { Gives (λ vs. vs) result (drafts.take_vars self.now vars.now) }
     {
         guard(self.rank <= 4, Cause::OutOfPlace)?;
-        guard(are_free(vars), Cause::NameTaken)?;
+        guard(are_free(alloc, vars)?, Cause::NameTaken)?;
         guard(
             are_vars_known(self.spec.sorts.as_slice(), vars),
             Cause::UnknownName,
@@ -313,7 +313,7 @@ impl SpecDraft {
     {
         guard(self.rank <= 5, Cause::OutOfPlace)?;
         guard(
-            !is_taken(&self.spec, name.as_slice()) && are_free(params),
+            !is_taken(&self.spec, name.as_slice()) && are_free(alloc, params)?,
             Cause::NameTaken,
         )?;
         guard(

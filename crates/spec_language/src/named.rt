@@ -1,11 +1,14 @@
 //! Names and what they stand for.
 
-ghost use Rattle.std.specs.Prelude.{◌≡◌, ◌≤◌, length};
+ghost use Rattle.std.specs.Prelude.{◌≡◌, ◌≤◌, length, IfOk};
 ghost use Rattle.spec_language.specs.Names as names;
 
+use ind_base::NoMemory;
 use line_text::same;
 use spec_lines::{NamedParam, NamedVar};
 use spec_model::{Num, Op, Pred, Sort, Var};
+use std::alloc::Global;
+use std::collections::BTreeSet;
 
 /// What has a name.
 pub trait Named: Sized {
@@ -160,17 +163,19 @@ pub fn place_of<T: Named>(items: &[T], name: &[u8]) -> u32
     items.len() as u32
 }
 
-/// Whether no name is reserved and none stands twice.
-pub(crate) fn are_free<T: Named>(items: &[T]) -> bool
-    ensures { result ≡ names.are_free T.name_of items.now }
+/// Whether no name is reserved and none stands twice. The names behind a place stand in a set, since
+/// a line may have very many.
+pub(crate) fn are_free<T: Named>(alloc: Global, items: &[T]) -> Result<bool, NoMemory>
+    ensures { IfOk result (λ free. free ≡ names.are_free T.name_of items.now) }
 {
-    let mut rest = items;
-    'going: while !rest.is_empty() {
-        let (head, others) = rest.split_at(1);
-        if is_reserved(head[0].name()) || has_name(others, head[0].name()) {
-            return false;
+    let mut behind = BTreeSet::new(alloc);
+    let mut front = items;
+    'going: while let Some((last, others)) = front.split_last() {
+        let name = last.name();
+        if is_reserved(name) || !behind.insert(name)? {
+            return Ok(false);
         }
-        rest = others;
+        front = others;
     }
-    true
+    Ok(true)
 }
