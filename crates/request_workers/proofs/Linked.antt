@@ -31,8 +31,8 @@ sendings_other w me p j ne = ap (λ (ls : List (List Sending)). slice_index_or l
 
 -- ---- a step that sends nothing
 
-put_later : (setup : Setup) (steps more from to : ℕ) (m : Message) → steps ≤ more → IsPut setup steps from to m → IsPut setup more from to m
-put_later setup steps more from to m le h = record { from_is = h.from_is; fits = h.fits; stamp = omega (arith, h.stamp, le) }
+put_later : (steps more from : ℕ) (m : Message) → steps ≤ more → IsPut steps from m → IsPut more from m
+put_later steps more from m le h = record { from_is = h.from_is; stamp = omega (arith, h.stamp, le) }
 
 -- it is no send
 abbrev pub IsSilent : Ask → Type 0
@@ -54,7 +54,7 @@ links_silent setup done o w p links silent lt same h = record {
   whole = h.whole;
   sent = λ from to f t. ap (sent_to to) (as_before from) ∙ h.sent from to f t;
   counted = λ from to f t. omega (arith, h.counted from to f t, sends_more from to done o, ap (λ b. length (if b then o ∷ [] else [])) (no_send from to o silent));
-  each = λ from to k m f t is. put_later setup (length done) (length (done ++ o ∷ [])) from to m (omega (arith, length-append done (o ∷ []))) (h.each from to k m f t is);
+  each = λ from to k m f t is. put_later (length done) (length (done ++ o ∷ [])) from m (omega (arith, length-append done (o ∷ []))) (h.each from to k m f t is);
 }
   where
     as_before : (from : ℕ) → sendings_at (slice_set w o.replica p) from ≡ sendings_at w from
@@ -86,7 +86,7 @@ pub record IsSent (setup : Setup) (done : List Order) (o : Order) (to number : �
   pub world : o.replica < length w
   pub sendings : p.sendings ≡ sendings_at w o.replica ++ sending_of m ∷ []
   pub to_is : m.to ≡ to
-  pub put : IsPut setup (length done + 1) o.replica to m
+  pub put : IsPut (length done + 1) o.replica m
 
 -- the sends of this order on a link
 sends_this : (o : Order) (to number from t : ℕ) → o.ask ≡ asks.Send to (Some number) → is_send from t o ≡ (eqb o.replica from && eqb to t)
@@ -96,7 +96,7 @@ sends_this o to number from t is = ap (λ a. eqb o.replica from && sends_to t a)
 record IsLink (setup : Setup) (done : List Order) (w : World) (links : List (List Message)) (from to : ℕ) : Type 0 where
   sent : sent_to to (sendings_at w from) ≡ map sending_of (put_on links from to)
   counted : length (put_on links from to) ≡ sends_of from to done
-  each : (k : ℕ) (m : Message) → slice_get (put_on links from to) k ≡ Some m → IsPut setup (length done) from to m
+  each : (k : ℕ) (m : Message) → slice_get (put_on links from to) k ≡ Some m → IsPut (length done) from m
 
 link_at : (setup : Setup) (done : List Order) (w : World) (links : List (List Message)) (from to : ℕ) → AreLinks setup done w links → from < setup.replicas → to < setup.replicas → IsLink setup done w links from to
 link_at setup done w links from to h lf lt = record { sent = h.sent from to lf lt; counted = h.counted from to lf lt; each = λ k m is. h.each from to k m lf lt is }
@@ -107,20 +107,20 @@ link_quiet : (setup : Setup) (done : List Order) (o : Order) (w new : World) (li
 link_quiet setup done o w new links put a b same kept none h = record {
   sent = same ∙ h.sent ∙ ap (map sending_of) (sym kept);
   counted = omega (arith, ap length kept, h.counted, sends_more a b done o, ap (λ c. length (if c then o ∷ [] else [])) none);
-  each = λ k m is. put_later setup (length done) (length (done ++ o ∷ [])) a b m (omega (arith, length-append done (o ∷ []))) (h.each k m (ap (λ (l : List Message). slice_get l k) (sym kept) ∙ is));
+  each = λ k m is. put_later (length done) (length (done ++ o ∷ [])) a m (omega (arith, length-append done (o ∷ []))) (h.each k m (ap (λ (l : List Message). slice_get l k) (sym kept) ∙ is));
 }
 
 -- the message is put on this link
 link_put : (setup : Setup) (done : List Order) (o : Order) (w new : World) (links put : List (List Message)) (a b : ℕ) (m : Message) → sent_to b (sendings_at new a) ≡ sent_to b (sendings_at w a) ++ sending_of m ∷ [] → put_on put a b ≡ put_on links a b ++ m ∷ []
-    → is_send a b o ≡ true → IsPut setup (length done + 1) a b m → IsLink setup done w links a b → IsLink setup (done ++ o ∷ []) new put a b
+    → is_send a b o ≡ true → IsPut (length done + 1) a m → IsLink setup done w links a b → IsLink setup (done ++ o ∷ []) new put a b
 link_put setup done o w new links put a b m more kept one is_put h =
     let long : length (done ++ o ∷ []) ≡ length done + 1 = length-append done (o ∷ []) in
     record {
       sent = more ∙ ap (λ (l : List Sending). l ++ sending_of m ∷ []) h.sent ∙ sym (map-append sending_of (put_on links a b) (m ∷ [])) ∙ ap (map sending_of) (sym kept);
       counted = omega (arith, ap length kept, length-append (put_on links a b) (m ∷ []), h.counted, sends_more a b done o, ap (λ c. length (if c then o ∷ [] else [])) one);
       each = λ k x is. elim (get_push (put_on links a b) m k x (ap (λ (l : List Message). slice_get l k) (sym kept) ∙ is)) [
-        | inl old ↦ put_later setup (length done) (length (done ++ o ∷ [])) a b x (omega (arith, long)) (h.each k x old)
-        | inr last ↦ put_later setup (length done + 1) (length (done ++ o ∷ [])) a b x (omega (arith, long)) (subst (IsPut setup (length done + 1) a b) last.1 is_put)
+        | inl old ↦ put_later (length done) (length (done ++ o ∷ [])) a x (omega (arith, long)) (h.each k x old)
+        | inr last ↦ put_later (length done + 1) (length (done ++ o ∷ [])) a x (omega (arith, long)) (subst (IsPut (length done + 1) a) last.1 is_put)
       ];
     }
 

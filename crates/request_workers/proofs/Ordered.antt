@@ -93,12 +93,12 @@ send_running setup schedule at o to number m nodes new links put law few a h is 
       world = omega (arith, h.world_whole, a.fits.within);
       sendings = refl;
       to_is = sends.to_is;
-      put = record { from_is = sends.from_is; fits = sends.fits; stamp = omega (arith, sends.stamp, sends.steps.steps.stamp, before) };
+      put = record { from_is = sends.from_is; stamp = omega (arith, sends.stamp, sends.steps.steps.stamp, before) };
     }) h.linked)))
 
 -- a message that a line takes
 pub is_put : (setup : Setup) (schedule : List Order) (at : ℕ) (o : Order) (from number : ℕ) (m : Message) (nodes : List Node) (links : List (List Message)) → IsAt setup schedule at o → AreRunning setup (take at schedule) nodes links
-    → o.ask ≡ asks.Take from (Some number) → slice_get (put_on links from o.replica) number ≡ Some m → IsPut setup (length (take at schedule)) from o.replica m
+    → o.ask ≡ asks.Take from (Some number) → slice_get (put_on links from o.replica) number ≡ Some m → IsPut (length (take at schedule)) from m
 is_put setup schedule at o from number m nodes links a h is there =
     let fits : StepFits setup.spec setup.replicas o.replica (asks.Take from (Some number)) = subst (StepFits setup.spec setup.replicas o.replica) is a.fits.step in
     h.linked.each from o.replica number m fits.within a.fits.within there
@@ -131,7 +131,7 @@ pub take_running : (setup : Setup) (schedule : List Order) (at : ℕ) (o : Order
 take_running setup schedule at o from number m nodes new links law a h is there steps =
     let done : List Order = take at schedule in
     let heard : Option Sending = Some (sending_of m) in
-    let posted : IsPut setup (length done) from o.replica m = is_put setup schedule at o from number m nodes links a h is there in
+    let posted : IsPut (length done) from m = is_put setup schedule at o from number m nodes links a h is there in
     let asked : asks.Take m.from (Some number) ≡ o.ask = ap (λ f. asks.Take f (Some number)) posted.from_is ∙ sym is in
     let this : StepsAt setup o.replica o.ask heard [] nodes new = subst (λ k. StepsAt setup o.replica k heard [] nodes new) asked steps in
     let before = (h.each o.replica steps.before steps.was).stamp in

@@ -11,7 +11,6 @@ use Rattle.spec_model.specs.declared.plan.Setup.{Setup}
 use Rattle.run_model.specs.declared.message.Message.{Message}
 use Rattle.run_model.specs.declared.step.Ask.{Ask}
 use Rattle.run_model.specs.declared.step.Ask.TheVariants as asks
-use Rattle.run_model.specs.Fitting.{MessageFits}
 use Rattle.ind_base.specs.declared.refusal.NoMemory.{NoMemory}
 use Rattle.run_model.specs.declared.step.Order.{Order}
 use Rattle.run_model.specs.declared.step.StepEntry.{StepEntry}
@@ -235,13 +234,12 @@ stepped_at setup me ask heard sent nodes old new lt is steps = record {
 
 -- or sent
 pub sent_at : (setup : Setup) (me to number : ℕ) (nodes : List Node) (old new : Node) (r : Result Message NoMemory) → slice_get nodes me ≡ Some old → old.replica.me ≡ me
-    → IfOk r (λ m. NodeSteps setup (asks.Send to (Some number)) None (sending_of m ∷ []) old new) → IfOk r (λ m. MessageFits setup.spec setup.replicas to m) → IfOk r (λ m. m.from ≡ old.replica.me) → IfOk r (λ m. m.to ≡ to) → IfOk r (λ m. m.stamp ≡ new.stamp)
+    → IfOk r (λ m. NodeSteps setup (asks.Send to (Some number)) None (sending_of m ∷ []) old new) → IfOk r (λ m. m.from ≡ old.replica.me) → IfOk r (λ m. m.to ≡ to) → IfOk r (λ m. m.stamp ≡ new.stamp)
     → IfOk r (λ m. SendsAt setup me to number m nodes (slice_set nodes me new))
-sent_at setup me to number nodes old new (Ok m) was mine steps fits from at stamp = record {
+sent_at setup me to number nodes old new (Ok m) was mine steps from at stamp = record {
   steps = record { before = old; after = new; was = was; becomes = refl; steps = steps };
   from_is = from ∙ mine;
   to_is = at;
-  fits = fits;
   stamp = stamp;
 }
-sent_at setup me to number nodes old new (Err e) was mine steps fits from at stamp = tt
+sent_at setup me to number nodes old new (Err e) was mine steps from at stamp = tt

@@ -13,7 +13,6 @@ use Rattle.run_model.specs.Worlds.{Sending, World, first_world, logs_of, sent_to
 use Rattle.run_model.specs.Steps.{links_of, next_stamp}
 use Rattle.run_model.specs.Runs.{InOrder, Runs, asks_in, asks_of, entries_at}
 use Rattle.run_model.specs.Finals.{final_of}
-use Rattle.run_model.specs.Fitting.{MessageFits}
 use Rattle.run_model.specs.Locals.{Local, LocalSteps, StandsIn, first_local}
 use Rattle.scenario_text.specs.Numbered.{sends_of}
 use Rattle.replica_core.specs.Heeded.{IsHeededWhole}
@@ -65,10 +64,9 @@ put_on links from to = slice_index_or links (link_place from to) []
 abbrev pub sendings_at : World → ℕ → List Sending
 sendings_at world me = slice_index_or (links_of world) me []
 
--- a message from one replica to another, of one of the first so many steps
-pub record IsPut (setup : Setup) (steps from to : ℕ) (message : Message) : Type 0 where
+-- a message from this replica, of one of the first so many steps
+pub record IsPut (steps from : ℕ) (message : Message) : Type 0 where
   pub from_is : message.from ≡ from
-  pub fits : MessageFits setup.spec setup.replicas to message
   pub stamp : message.stamp ≤ steps
 
 -- the links hold what the replicas sent, in order and in just the number that was asked
@@ -76,7 +74,7 @@ pub record AreLinks (setup : Setup) (done : List Order) (world : World) (links :
   pub whole : length links ≡ 256
   pub sent : (from to : ℕ) → from < setup.replicas → to < setup.replicas → sent_to to (sendings_at world from) ≡ map sending_of (put_on links from to)
   pub counted : (from to : ℕ) → from < setup.replicas → to < setup.replicas → length (put_on links from to) ≡ sends_of from to done
-  pub each : (from to k : ℕ) (message : Message) → from < setup.replicas → to < setup.replicas → slice_get (put_on links from to) k ≡ Some message → IsPut setup (length done) from to message
+  pub each : (from to k : ℕ) (message : Message) → from < setup.replicas → to < setup.replicas → slice_get (put_on links from to) k ≡ Some message → IsPut (length done) from message
 
 -- replica me of a world, after so many steps of all
 pub record IsNode (setup : Setup) (steps : ℕ) (entries : List StepEntry) (world : World) (me : ℕ) (node : Node) : Type 0 where
@@ -121,7 +119,6 @@ pub record SendsAt (setup : Setup) (me to number : ℕ) (message : Message) (old
   pub steps : StepsAt setup me (asks.Send to (Some number)) None (sending_of message ∷ []) old new
   pub from_is : message.from ≡ me
   pub to_is : message.to ≡ to
-  pub fits : MessageFits setup.spec setup.replicas to message
   pub stamp : message.stamp ≡ steps.after.stamp
 
 -- a node that has taken no step

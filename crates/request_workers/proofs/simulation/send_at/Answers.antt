@@ -11,4 +11,4 @@ send-requires-clause-other c = λ is. c.requires.other (is ∙ (can_at _ c.args.
 pub returns : goal.returns
 returns c =
     let can = can_at _ c.args.me c.args.nodes.now.items _ c.requires.place c.requires.can c.index_mut.ensures.value in
-    sent_at _ c.args.me c.args.to c.args.number c.args.nodes.now.items _ _ c.send.result can.0 can.1 c.send.ensures.steps c.send.ensures.fits c.send.ensures.from c.send.ensures.to c.send.ensures.stamp
+    sent_at _ c.args.me c.args.to c.args.number c.args.nodes.now.items _ _ c.send.result can.0 can.1 c.send.ensures.steps c.send.ensures.from c.send.ensures.to c.send.ensures.stamp
