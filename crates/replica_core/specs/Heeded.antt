@@ -1,4 +1,4 @@
--- What a replica heeds of a message that may be any: in a run that is all of it. A cell's value needs no guard: no act changes it by more than 16 * 10 ^ 9, and no log of a replica has more than 2 ^ 22 items.
+-- What a replica heeds of a message that may be any: in a run that is all of it. A cell's value has no guard: no act changes it by more than 16 * 10 ^ 9, so it stays below 2 ^ 62 while no log has more than 2 ^ 22 items, as after 100,000 batches.
 use Rattle.std.specs.Prelude.{◌≡◌, ◌≢◌, ◌⊎◌, ℕ, ◌+◌, ◌<◌, ◌≤◌, ◌^◌, List, [], ◌∷◌, ◌++◌, length, take, sum_by, slice_get, slice_index, Some}
 use Rattle.std.specs.List.{AllByRecursion}
 use Rattle.spec_model.specs.declared.plan.Setup.{Setup}
