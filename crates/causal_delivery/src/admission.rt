@@ -9,7 +9,7 @@ use spec_model::LogItem;
 
 /// How many items of a message are skipped, since they were seen, and how many behind them are
 /// applied.
-#[derive(Clone, Copy, Debug, PartialEq, Eq)]
+#[derive(Clone, Copy, PartialEq, Eq)]
 pub struct Admitted {
     pub skip: u32,
     pub apply: u32,

@@ -19,7 +19,7 @@ use Rattle.spec_model.specs.Universe.{first_value}
 use Rattle.spec_model.specs.Fits.{NumFits}
 use Rattle.std.proofs.lemmas.Option.{same_Some, slice_get-get_or, slice_get_within}
 use Rattle.run_model.specs.Logs.{Logs, items_in, log_at}
-use Rattle.run_model.specs.Fitting.{ItemFits}
+use Rattle.run_model.specs.Fitting.{IsPlaced}
 use Rattle.run_model.specs.States.{is_before, is_setter, is_unfollowed, lowered_by, prevails, raised_by, truth_of, value_of}
 use Rattle.run_model.proofs.Lists.{each_append, each_at, get_set_same}
 use Rattle.causal_store.specs.Folds.{all_items, is_behind, is_setter_past, known_by}
@@ -116,21 +116,21 @@ no_items_fit P zero = tt
 no_items_fit P (suc n) = (tt, no_items_fit P n)
 
 -- of all where one is set
-each_set : {X : Type 0} (P : X → Type 0) (xs : List X) (i : ℕ) (x : X) → AllByRecursion P xs → P x → AllByRecursion P (set xs i x)
+pub each_set : {X : Type 0} (P : X → Type 0) (xs : List X) (i : ℕ) (x : X) → AllByRecursion P xs → P x → AllByRecursion P (set xs i x)
 each_set P [] i x all here = tt
 each_set P (y ∷ xs) zero x all here = (here, all.1)
 each_set P (y ∷ xs) (suc i) x all here = (all.0, each_set P xs i x all.1 here)
 
 -- of the one at a place, or of nothing
-each_log : (P : LogItem → Type 0) (logs : Logs) (i : ℕ) → AllByRecursion (AllByRecursion P) logs → AllByRecursion P (log_at logs i)
+pub each_log : (P : LogItem → Type 0) (logs : Logs) (i : ℕ) → AllByRecursion (AllByRecursion P) logs → AllByRecursion P (log_at logs i)
 each_log P [] i all = tt
 each_log P (log ∷ logs) zero all = all.0
 each_log P (log ∷ logs) (suc i) all = each_log P logs i all.1
 
 -- one more item of one log
-pub one_more : (spec : Spec) (n : ℕ) (s new : Store) (x : LogItem) → IsStore spec n s → ItemFits spec n x → x.index ≡ length (log_at (logs_in s) x.origin) → logs_in new ≡ slice_set (logs_in s) x.origin (log_at (logs_in s) x.origin ++ x ∷ []) → cut_in new ≡ slice_set (cut_in s) x.origin (x.index + 1)
-    → IsStore spec n new
-one_more spec n s new x own fits next logs cut =
+pub one_more : (n : ℕ) (s new : Store) (x : LogItem) → IsStore n s → IsPlaced n x → x.index ≡ length (log_at (logs_in s) x.origin) → logs_in new ≡ slice_set (logs_in s) x.origin (log_at (logs_in s) x.origin ++ x ∷ []) → cut_in new ≡ slice_set (cut_in s) x.origin (x.index + 1)
+    → IsStore n new
+one_more n s new x own fits next logs cut =
     let log : List LogItem = log_at (logs_in s) x.origin in
     let counted : x.index + 1 ≡ length (log ++ x ∷ []) = omega (arith, next, length_push log x) in
     record {
@@ -138,8 +138,8 @@ one_more spec n s new x own fits next logs cut =
       few = own.few;
       counts = cut ∙ ap (λ (c : List ℕ). slice_set c x.origin (x.index + 1)) own.counts ∙ ap (slice_set (map (λ (l : List LogItem). length l) (logs_in s)) x.origin) counted
           ∙ sym (ap (map (λ (l : List LogItem). length l)) logs ∙ map-set (λ (l : List LogItem). length l) (logs_in s) x.origin (log ++ x ∷ []));
-      fits = subst (AllByRecursion (AllByRecursion (ItemFits spec n))) (sym logs)
-          (each_set (AllByRecursion (ItemFits spec n)) (logs_in s) x.origin (log ++ x ∷ []) own.fits (each_append (ItemFits spec n) log (x ∷ []) (each_log (ItemFits spec n) (logs_in s) x.origin own.fits) (fits, tt)));
+      fits = subst (AllByRecursion (AllByRecursion (IsPlaced n))) (sym logs)
+          (each_set (AllByRecursion (IsPlaced n)) (logs_in s) x.origin (log ++ x ∷ []) own.fits (each_append (IsPlaced n) log (x ∷ []) (each_log (IsPlaced n) (logs_in s) x.origin own.fits) (fits, tt)));
     }
 
 -- ---- values
@@ -278,10 +278,10 @@ pub pushed_on : (logs : List (Vec LogItem)) (i : ℕ) (log more : Vec LogItem) (
 pushed_on logs i log more x there is = map-set (λ (l : Vec LogItem). l.items) logs i more ∙ ap (slice_set (map (λ (l : Vec LogItem). l.items) logs) i) (is ∙ ap (λ (l : List LogItem). l ++ x ∷ []) (sym (log_of logs i log there)))
 
 -- the pasts of items that fit are as long as a cut
-pub each_short : (spec : Spec) (n m : ℕ) (items : List LogItem) → n ≡ m → AllByRecursion (ItemFits spec n) items → All (λ item. length item.deps ≤ m) items
-each_short spec n m [] is all k d lt = absurd (omega (arith, lt))
-each_short spec n m (x ∷ items) is all zero d lt = omega (arith, all.0.past, is)
-each_short spec n m (x ∷ items) is all (suc k) d lt = each_short spec n m items is all.1 k d (omega (arith, lt))
+pub each_short : (n m : ℕ) (items : List LogItem) → n ≡ m → AllByRecursion (IsPlaced n) items → All (λ item. length item.deps ≤ m) items
+each_short n m [] is all k d lt = absurd (omega (arith, lt))
+each_short n m (x ∷ items) is all zero d lt = omega (arith, all.0.past, is)
+each_short n m (x ∷ items) is all (suc k) d lt = each_short n m items is all.1 k d (omega (arith, lt))
 
 pub first_room : (logs : List (Vec LogItem)) (item : LogItem) (items : List LogItem) → length (filter (λ (i : LogItem). i.origin == item.origin) (item ∷ items)) ≤ room_of (slice_get logs item.origin) → 0 < room_of (slice_get logs item.origin)
 first_room logs item items room =

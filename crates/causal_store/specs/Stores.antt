@@ -7,7 +7,7 @@ use Rattle.spec_model.specs.declared.log.LogItem.{LogItem}
 use Rattle.spec_model.specs.Truths.{Truths}
 use Rattle.run_model.specs.Logs.{Logs, items_in}
 use Rattle.run_model.specs.States.{truth_of}
-use Rattle.run_model.specs.Fitting.{ItemFits}
+use Rattle.run_model.specs.Fitting.{IsPlaced}
 use Rattle.causal_store.specs.declared.store.Store.{Store}
 
 -- the logs that it keeps, of each replica as far as it is known
@@ -19,11 +19,11 @@ abbrev pub cut_in : Store → List ℕ
 cut_in s = s.cut
 
 -- it keeps a log for each of so many replicas, of items that fit, and counts them
-pub record IsStore (spec : Spec) (replicas : ℕ) (s : Store) : Type 0 where
+pub record IsStore (replicas : ℕ) (s : Store) : Type 0 where
   pub whole : length (logs_in s) ≡ replicas
   pub few : replicas ≤ 16
   pub counts : cut_in s ≡ map (λ log. length log) (logs_in s)
-  pub fits : AllByRecursion (AllByRecursion (ItemFits spec replicas)) (logs_in s)
+  pub fits : AllByRecursion (AllByRecursion (IsPlaced replicas)) (logs_in s)
 
 -- the truths of the state of the acts that it has
 abbrev pub state_truths : Spec → Store → Truths

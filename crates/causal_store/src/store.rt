@@ -6,7 +6,7 @@ ghost use Rattle.spec_model.specs.declared.spec.Spec.{Spec};
 ghost use Rattle.spec_model.specs.declared.log.LogItem.{LogItem as ItemOf};
 ghost use Rattle.spec_model.specs.Fits.{IsWellFormed};
 ghost use Rattle.run_model.specs.Logs.{LiesWithin, items_in, log_at};
-ghost use Rattle.run_model.specs.Fitting.{ItemFits};
+ghost use Rattle.run_model.specs.Fitting.{IsPlaced};
 ghost use mathlib.Core.Bool.{beq};
 ghost use Rattle.spec_model.specs.Truths.{pred_at, wins};
 ghost use Rattle.spec_model.specs.Universe.{first_value};
@@ -21,7 +21,7 @@ use std::alloc::Global;
 /// The items that were applied, of each log in its order.
 ///
 /// The state is that of the set of all acts among them, whatever the order in which they came.
-#[derive(Debug, Drop)]
+#[derive(Drop)]
 pub struct Store {
     logs: Vec<Vec<LogItem>>,
     cut: Cut,
@@ -86,7 +86,7 @@ impl Store {
     pub fn begin(alloc: Global, replicas: u32) -> Result<Store, NoMemory>
         requires { replicas ≤ 16 }
         ensures empty { IfOk result (λ s. logs_in s ≡ replicate replicas []) }
-        ensures own { (spec : Spec) → IfOk result (IsStore spec replicas) }
+        ensures own { IfOk result (IsStore replicas) }
         ensures applied { (spec : Spec) → IfOk result (HasApplied spec replicas []) }
     {
         let mut logs = Vec::new(alloc);
@@ -141,12 +141,12 @@ impl Store {
 
     /// Applies the next item of its log, for which room was made.
     pub fn apply(&mut self, spec: &Specification, item: &LogItem)
-        requires own { IsStore spec.now (length (logs_in self.old)) self.old }
-        requires fits { ItemFits spec.now (length (logs_in self.old)) item.now }
+        requires own { IsStore (length (logs_in self.old)) self.old }
+        requires fits { IsPlaced (length (logs_in self.old)) item.now }
         requires next { item.now.index ≡ length (log_at (logs_in self.old) item.now.origin) }
         requires room { (items : List ItemOf) × HasRoomFor self.old (item.now ∷ items) }
         ensures applied { logs_in self.new ≡ slice_set (logs_in self.old) item.now.origin (log_at (logs_in self.old) item.now.origin ++ item.now ∷ []) }
-        ensures own { IsStore spec.now (length (logs_in self.old)) self.new }
+        ensures own { IsStore (length (logs_in self.old)) self.new }
         ensures order { (items : List ItemOf) → HasApplied spec.now (length (logs_in self.old)) items self.old → LiesWithin item.now.deps (cut_in self.old) → HasApplied spec.now (length (logs_in self.old)) (items ++ item.now ∷ []) self.new }
         ensures room { (items : List ItemOf) → HasRoomFor self.old (item.now ∷ items) → HasRoomFor self.new items }
     {
@@ -157,7 +157,7 @@ impl Store {
 
     /// The most that the setters of this value have in their pasts.
     fn pasts(&self, spec: &Specification, atom: &Atom, truth: bool) -> Cut
-        requires { IsStore spec.now (length (logs_in self.now)) self.now }
+        requires { IsStore (length (logs_in self.now)) self.now }
         ensures { (i : ℕ) → slice_index result i ≡ known_by spec.now atom.now.pred atom.now.args truth (all_items (logs_in self.now)) i }
     {
         let mut past = Cut::new();
@@ -203,7 +203,7 @@ impl Store {
 
     /// Whether some act is a setter of this value that no setter of the other follows.
     fn act_prevails(&self, spec: &Specification, atom: &Atom, truth: bool) -> bool
-        requires { IsStore spec.now (length (logs_in self.now)) self.now }
+        requires { IsStore (length (logs_in self.now)) self.now }
         ensures { result ≡ list_any (is_unfollowed spec.now atom.now.pred atom.now.args truth (all_items (logs_in self.now))) (all_items (logs_in self.now)) }
     {
         let past = self.pasts(spec, atom, !truth);
@@ -212,7 +212,7 @@ impl Store {
 
     /// Whether some setter of this value isn't followed by any setter of the other.
     fn prevails(&self, spec: &Specification, atom: &Atom, truth: bool) -> bool
-        requires { IsStore spec.now (length (logs_in self.now)) self.now }
+        requires { IsStore (length (logs_in self.now)) self.now }
         ensures { result ≡ prevails spec.now atom.now.pred atom.now.args truth (all_items (logs_in self.now)) }
     {
         self.first_prevails(spec, atom, truth) || self.act_prevails(spec, atom, truth)
@@ -220,7 +220,7 @@ impl Store {
 
     /// The truth of an atom in the state of all acts that were applied.
     pub fn truth(&self, spec: &Specification, atom: &Atom) -> bool
-        requires { IsStore spec.now (length (logs_in self.now)) self.now }
+        requires { IsStore (length (logs_in self.now)) self.now }
         ensures { result ≡ state_truths spec.now self.now atom.now.pred atom.now.args }
     {
         let winning = winning_value(spec, atom.pred);
@@ -235,7 +235,7 @@ impl Store {
     /// no log is longer than so many acts can bear.
     pub fn value(&self, spec: &Specification, cell: &Cell) -> i64
         requires well_formed { IsWellFormed spec.now }
-        requires own { IsStore spec.now (length (logs_in self.now)) self.now }
+        requires own { IsStore (length (logs_in self.now)) self.now }
         requires short { IsShort self.now }
         requires known { cell.now.num < length spec.now.nums }
         ensures value { result ≡ value_of spec.now (items_in (cut_in self.now) (logs_in self.now)) cell.now }

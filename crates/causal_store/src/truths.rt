@@ -15,7 +15,7 @@ impl Truth for StoreTruths<'_> {
     ghost use Rattle.std.specs.Prelude.{length};
     ghost use Rattle.causal_store.specs.Stores.{IsStore, logs_in, state_truths};
 
-    ghost knows = { λ s atom. IsStore s.spec.now (length (logs_in s.store.now)) s.store.now };
+    ghost knows = { λ s atom. IsStore (length (logs_in s.store.now)) s.store.now };
 
     ghost truths = { λ s. state_truths s.spec.now s.store.now };
 

@@ -10,6 +10,5 @@ pub mod Pruning
 pub mod Blocks
 pub mod Contents
 pub mod Firsts
-pub mod Keys
 pub mod Fitting
 pub mod Laying

@@ -18,7 +18,7 @@ pub struct CellChange {
 }
 
 /// What an operation changes: by declaration, then by arguments, each atom and each cell once.
-#[derive(Debug, Drop, PartialEq, Eq)]
+#[derive(Drop, PartialEq, Eq)]
 pub struct Change {
     pub atoms: List<AtomChange>,
     pub cells: List<CellChange>,

@@ -2,7 +2,7 @@
 
 ghost use Rattle.std.specs.Prelude.{◌≡◌, ◌≢◌, ◌↔◌, ◌≤◌, length, map, None};
 ghost use Rattle.spec_model.specs.Changes.{elements_at};
-ghost use Rattle.effect_model.specs.Keys.{key_at};
+ghost use Rattle.spec_model.specs.Needs.{key_at};
 
 use crate::touching::first_of;
 use ind_base::Args;

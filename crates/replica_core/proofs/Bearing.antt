@@ -17,10 +17,10 @@ use Rattle.spec_model.specs.Changes.{same_cell}
 use Rattle.spec_model.specs.Fits.{IsWellFormed}
 use Rattle.spec_model.specs.Universe.{cells}
 use Rattle.run_model.specs.declared.step.StepEntry.{StepEntry}
-use Rattle.run_model.specs.Balance.{AcceptsOwn, accepts, held_in, in_flight, is_accepted}
-use Rattle.run_model.specs.Fitting.{BodyFits, ItemFits, MessageFits, RightFits}
-use Rattle.run_model.specs.Logs.{AreLogs, IsConsistent, IsIn, Logs, item_at, items_in, log_at}
-use Rattle.run_model.specs.Rights.{held_count, out_gives}
+use Rattle.run_model.specs.Balance.{AcceptsOwn, held_in}
+use Rattle.run_model.specs.Logs.{accepts, is_accepted, AreLogs, IsConsistent, IsIn, Logs, item_at, items_in, log_at}
+use Rattle.run_model.specs.Fitting.{BodyFits, ItemFits, MessageFits}
+use Rattle.run_model.specs.Rights.{flight_of, held_count, out_gives}
 use Rattle.run_model.specs.Runs.{Runs}
 use Rattle.run_model.specs.Locals.{Local, StandsIn}
 use Rattle.run_model.specs.Steps.{unseen}
@@ -28,20 +28,25 @@ use Rattle.run_model.specs.Worlds.{Standing, World, first_world, logs_of}
 use Rattle.run_model.proofs.Answers.{IsPart, IsSentTo}
 use Rattle.run_model.proofs.Counting.{any_there, sum_filter}
 use Rattle.run_model.proofs.Escrow.{same_cell_is}
-use Rattle.run_model.proofs.Here.{held_known, kept_from_first}
+use Rattle.run_model.proofs.Alike.{counts_alike}
+use Rattle.run_model.proofs.Balanced.{balanced}
+use Rattle.run_model.proofs.Here.{kept_from_first}
+use Rattle.run_model.proofs.Known.{all_alike}
 use Rattle.run_model.proofs.InFlight.{accepts_true}
 use Rattle.run_model.proofs.Kept.{heard_from}
 use Rattle.run_model.proofs.Lists.{each_at, get_behind, get_front}
 use Rattle.run_model.proofs.Places.{place_in}
-use Rattle.run_model.proofs.Sound.{runs_are_sound}
+use Rattle.run_model.proofs.Sound.{keeps_held, run_keeps}
 use Rattle.run_model.proofs.WorldLogs.{logs_there}
 use Rattle.replica_core.specs.Drafts.{gives_to}
 use Rattle.replica_core.specs.Heeded.{CanAccept, held_after}
 use Rattle.replica_core.specs.Laws.{MessagesAreHeeded}
 use Rattle.replica_core.specs.Replicas.{known_to, standing_of}
+use Rattle.replica_core.specs.Tables.{HasLowsAlone, IsLow}
 use Rattle.replica_core.specs.declared.replica.Replica.{Replica}
 use Rattle.replica_core.proofs.Sent.{messages_fit}
-use Rattle.replica_core.proofs.Holding.{all_created, few_items, first_keeps_bounds, first_small, term_small}
+use Rattle.replica_core.proofs.Holding.{all_created, few_items, first_small, term_small}
+use Rattle.replica_core.proofs.Lows.{low_of}
 use Rattle.replica_core.proofs.Lists.{take_at}
 use Rattle.replica_core.proofs.Logged.{count_at}
 use Rattle.replica_core.proofs.Looking.{given_more, gives_no_other, heeded_whole, heeds_itself, nothing_given}
@@ -144,7 +149,7 @@ gives_in_flight logs me from at cut cut' r x h here = by_body x.body refl
 
 -- nor do several that stand in a row in a log
 part_in_flight : (logs : Logs) (me from : ℕ) (cut : List ℕ) (r : Right) (part : List LogItem) → HasSeen logs me cut → IsPart (log_at logs from) part
-    → sum_by (λ i. gives_to me r i.body) (unseen cut part) ≤ in_flight r (items_in (map (λ (l : List LogItem). length l) logs) logs)
+    → sum_by (λ i. gives_to me r i.body) (unseen cut part) ≤ flight_of (out_gives r) (items_in (map (λ (l : List LogItem). length l) logs) logs)
 part_in_flight logs me from cut r part h is =
     let all : List ℕ = map (λ (l : List LogItem). length l) logs in
     let items : List LogItem = items_in all logs in
@@ -177,29 +182,31 @@ bearable setup entries world me from l cell part well few some runs stands short
     let all : List ℕ = map (λ (l : List LogItem). length l) logs in
     let items : List LogItem = items_in all logs in
     let kept = kept_from_first setup entries world runs in
-    let sound = runs_are_sound setup entries world some (first_keeps_bounds spec well) runs in
-    let cut = sound.cuts me p stands.is in
+    let keeps = run_keeps setup entries world runs in
+    let held = keeps_held setup world some keeps in
+    let cut : IsConsistent logs p.cut × (slice_index p.cut me ≡ length p.log) = (keeps.cuts.cuts me p stands.is, (kept.each me p stands.is).stands.whole) in
+    let well_stood = (kept.each me p stands.is).stands in
     let same : held_count setup l.known me p.log r ≡ held_count setup logs me p.log r =
-    ap (λ (f : Right → ℕ). f r) (held_known setup logs l.known me p.log p.cut stands.knows (kept.each me p stands.is).stands.seen) in
+    ap (λ (f : Right → ℕ). f r) (counts_alike setup l.known logs me p.log (all_alike logs p.cut l.known p.log stands.knows well_stood.seen well_stood.pasts)) in
     let there : log_at logs me ≡ p.log = logs_there world me p stands.is in
     let whole : take (slice_index all me) (log_at logs me) ≡ p.log = take_all (slice_index all me) (log_at logs me) (omega (arith, count_at logs me)) ∙ there in
     let replicas : length logs ≡ length world = length-map world (λ (q : Standing). q.log) in
     let term = term_small (λ (k : ℕ). held_count setup logs k (take (slice_index all k) (log_at logs k)) r) (length logs) me (omega (arith, replicas, slice_get_within world me p stands.is)) in
     let one : held_count setup logs me p.log r ≤ held_in setup logs all r = subst (λ (own : List LogItem). held_count setup logs me own r ≤ held_in setup logs all r) whole term in
-    let seen : HasSeen logs me p.cut = record { are = sound.logs; own = sound.own; consistent = cut.0; mine = cut.1 ∙ sym (ap length there) } in
+    let seen : HasSeen logs me p.cut = record { are = held.named; own = held.own; consistent = cut.0; mine = cut.1 ∙ sym (ap length there) } in
     let flight = part_in_flight logs me from p.cut r part seen is in
-    let balance = sound.balanced all r (all_consistent logs sound.logs) among in
+    let balance = balanced setup logs all r held (all_consistent logs held.named) among in
     let count = few_items 4194304 all logs short in
     omega (arith, same, one, flight, balance, first_small spec cell well, all_created spec cell items well, count, replicas, kept.whole, few)
 
 -- a cell of which an item that fits gives some is of the universe
-gives_of_cell : (setup : Setup) (r : Replica) (before : List LogItem) (item : LogItem) (cell : Cell) → BodyFits setup.spec setup.replicas item.body → held_after setup r (before ++ item ∷ []) cell ≢ held_after setup r before cell → Contains (cells setup.spec) cell
-gives_of_cell setup r before item cell fits differs = by_body item.body refl fits
+gives_of_cell : (setup : Setup) (r : Replica) (before : List LogItem) (item : LogItem) (cell : Cell) → HasLowsAlone setup → BodyFits setup item.body → held_after setup r (before ++ item ∷ []) cell ≢ held_after setup r before cell → Contains (cells setup.spec) cell
+gives_of_cell setup r before item cell alone fits differs = by_body item.body refl fits
   where
     nothing : gives_to r.me (right.Low cell) item.body ≡ 0 → ⊥
     nothing none = differs (omega (arith, given_more r before item cell, nothing_given r item cell none))
 
-    of_right : (to : ℕ) (s : Right) (piece : Piece) → item.body ≡ body.Out to s piece → RightFits setup.spec s → Contains (cells setup.spec) cell
+    of_right : (to : ℕ) (s : Right) (piece : Piece) → item.body ≡ body.Out to s piece → IsLow setup.spec s → Contains (cells setup.spec) cell
     of_right to (right.Low a) piece is known = elim (cases_Bool (same_cell a cell)) [
       | inl same ↦ subst (Contains (cells setup.spec)) (same_cell_is a cell same) known.0
       | inr other ↦ absurd (nothing (ap (gives_to r.me (right.Low cell)) is ∙ gives_no_other r.me to a cell piece other))
@@ -209,10 +216,10 @@ gives_of_cell setup r before item cell fits differs = by_body item.body refl fit
     of_right to (right.Entry a args n) piece is known = absurd known
     of_right to (right.Part a key) piece is known = absurd known
 
-    by_body : (b : Body) → item.body ≡ b → BodyFits setup.spec setup.replicas b → Contains (cells setup.spec) cell
+    by_body : (b : Body) → item.body ≡ b → BodyFits setup b → Contains (cells setup.spec) cell
     by_body (body.Act inst) is fit = absurd (nothing (ap (gives_to r.me (right.Low cell)) is))
     by_body (body.Accept origin index) is fit = absurd (nothing (ap (gives_to r.me (right.Low cell)) is))
-    by_body (body.Out to s piece) is fit = of_right to s piece is fit.1
+    by_body (body.Out to s piece) is fit = of_right to s piece is (low_of setup s alone fit.1)
 
 -- so a message is heeded whole
 pub messages_heeded : MessagesAreHeeded
@@ -235,8 +242,8 @@ messages_heeded setup entries world r stamp sendings from number sent message we
           is = part.is ∙ ap (λ (l : List LogItem). part.front ++ (l ++ part.behind)) halves ∙ ap (λ (l : List LogItem). part.front ++ l) (append_assoc (take k items ++ item ∷ []) (drop (k + 1) items) part.behind);
         }
 
-    can : MessageFits setup.spec setup.replicas r.me message → (k : ℕ) (item : LogItem) → slice_get message.items k ≡ Some item → IsPart (log_at (logs_of world) from) message.items → CanAccept setup r (take k message.items) item
+    can : MessageFits setup r.me message → (k : ℕ) (item : LogItem) → slice_get message.items k ≡ Some item → IsPart (log_at (logs_of world) from) message.items → CanAccept setup r (take k message.items) item
     can fits k item there part cell differs =
-        let fit : ItemFits setup.spec setup.replicas item = each_at (ItemFits setup.spec setup.replicas) message.items k item fits.items there in
-        let known = gives_of_cell setup r (take k message.items) item cell fit.body differs in
+        let fit : ItemFits setup item = each_at (ItemFits setup) message.items k item fits.items there in
+        let known = gives_of_cell setup r (take k message.items) item cell lower fit.body differs in
         bearable setup entries world r.me from (record { standing = standing_of stamp sendings r; known = known_to r }) cell (take k message.items ++ item ∷ []) well few some runs stands short known (front_part (log_at (logs_of world) from) k item there part)

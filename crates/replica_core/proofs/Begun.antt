@@ -9,9 +9,10 @@ use Rattle.spec_model.specs.declared.right.Right.TheVariants as right
 use Rattle.run_model.specs.Logs.{Logs, log_at}
 use Rattle.run_model.specs.Rights.{even_share, first_count, held_count}
 use Rattle.run_model.specs.Worlds.{Standing, first_standing, no_cut}
-use Rattle.run_model.specs.Fitting.{AreInRow, WantFits}
+use Rattle.run_model.specs.Fitting.{AreInRow, ItemFits, WantFits}
 use Rattle.causal_store.specs.Stores.{IsStore, cut_in}
-use Rattle.replica_core.specs.Tables.{AreFirst}
+use Rattle.causal_store.proofs.Stored.{no_items_fit}
+use Rattle.replica_core.specs.Tables.{AreFirst, HasLowsAlone}
 use Rattle.replica_core.specs.Replicas.{AreCovered, IsKnown, IsReplica, known_to, own_log, standing_of}
 use Rattle.replica_core.specs.declared.replica.Replica.{Replica}
 
@@ -35,7 +36,8 @@ all_equal P (suc n) x h = (h, all_equal P n x h)
 pub record IsFirst (setup : Setup) (me : ℕ) (r : Replica) : Type 0 where
   pub me_is : r.me ≡ me
   pub within : me < setup.replicas
-  pub store : IsStore setup.spec setup.replicas r.store
+  pub alone : HasLowsAlone setup
+  pub store : IsStore setup.replicas r.store
   pub empty : known_to r ≡ replicate setup.replicas []
   pub lows : AreFirst setup me r.lows
   pub wants : r.wants ≡ []
@@ -51,7 +53,9 @@ first_replica setup me r h =
     record {
       me_is = h.me_is;
       within = h.within;
+      alone = h.alone;
       store = h.store;
+      fits = subst (AllByRecursion (AllByRecursion (ItemFits setup))) (sym h.empty) (no_items_fit (ItemFits setup) setup.replicas);
       own = subst (AreInRow me 0) (sym own) tt;
       known = subst (AllByRecursion (λ (i : LogItem). IsKnown (known_to r) me i.body)) (sym own) tt;
       covered = subst (λ (l : List LogItem). AreCovered setup (known_to r) me l) (sym own) (λ cell among. omega arith);
@@ -60,7 +64,7 @@ first_replica setup me r h =
         held = λ i cell is. h.lows.shares i cell is ∙ share_held (even_share (first_count setup.spec (right.Low cell)) setup.replicas me) ∙ ap (λ (l : List LogItem). held_count setup (known_to r) me l (right.Low cell)) (sym own);
         small = λ i. let up = h.lows.small i in omega (arith, up);
       };
-      wants = subst (AllByRecursion (WantFits setup.spec)) (sym h.wants) tt;
+      wants = subst (AllByRecursion (WantFits setup)) (sym h.wants) tt;
       few_wants = omega (arith, ap length h.wants);
       told = ap length h.told ∙ length-replicate setup.replicas (no_cut setup.replicas);
       told_each = subst (AllByRecursion (λ (c : List ℕ). length c ≡ setup.replicas)) (sym h.told) (all_equal (λ (c : List ℕ). length c ≡ setup.replicas) setup.replicas (no_cut setup.replicas) (length-replicate setup.replicas 0));

@@ -1,13 +1,12 @@
 -- What a replica applies, accepts and gives, one item after the other.
-use Rattle.std.proofs.Common.{◌≡◌, ◌≢◌, ℕ, zero, suc, ◌+◌, ◌/◌, ◌<◌, ◌≤◌, min, max, Bool, true, false, cond, List, [], ◌∷◌, ◌++◌, length, get_or, set, take, drop, refl, sym, ap, subst, ◌∙◌, arith, length-set, eq-eqb, ne_eqb}
+use Rattle.std.proofs.Common.{◌≡◌, ◌≢◌, ℕ, zero, suc, ◌+◌, ◌/◌, ◌<◌, ◌≤◌, min, max, Bool, true, false, cond, List, [], ◌∷◌, ◌++◌, length, get_or, map, set, take, drop, refl, sym, ap, subst, ◌∙◌, arith, length-set, eq-eqb, ne_eqb}
 use Rattle.std.specs.Prelude.{slice_index, slice_set, Some, None, Option, is_some, ◌==◌}
 use Rattle.std.specs.List.{AllByRecursion, flat_map}
 use Rattle.std.proofs.lemmas.List.{get_or-set_same, get_or-set_other, length_push, append_assoc, append-nil}
 use Rattle.std.proofs.lemmas.List.Concat.{flat_map-cons}
 use Rattle.std.proofs.lemmas.Grind.{flat_map-append}
-use Rattle.std.proofs.lemmas.Bool.{cond-true, cond-false}
+use Rattle.std.proofs.lemmas.Bool.{cond_both, cond-true, cond-false}
 use Rattle.spec_model.specs.declared.plan.Setup.{Setup}
-use Rattle.spec_model.specs.declared.spec.Spec.{Spec}
 use Rattle.spec_model.specs.declared.instance.Cell.{Cell}
 use Rattle.spec_model.specs.declared.right.Right.{Right}
 use Rattle.spec_model.specs.declared.right.Right.TheVariants as right
@@ -23,19 +22,21 @@ use Rattle.spec_model.specs.declared.log.Body.{Body}
 use Rattle.spec_model.specs.declared.log.Body.TheVariants as body
 use Rattle.spec_model.specs.declared.log.LogItem.{LogItem}
 use Rattle.run_model.specs.Logs.{Logs, log_at}
-use Rattle.run_model.specs.Rights.{first_lacking, is_met}
+use Rattle.run_model.specs.Levels.{first_lacking, is_met}
 use Rattle.spec_model.specs.declared.right.Lacking.{Lacking}
 use Rattle.run_model.specs.Worlds.{Standing, Sending, holding, joined, logged, logged_all}
 use Rattle.run_model.specs.Steps.{accept_of, accepts_of, answered, given}
 use Rattle.run_model.specs.Wants.{amount_of, need_of, piece_for}
-use Rattle.run_model.specs.Fitting.{AreInRow, ItemFits}
+use Rattle.run_model.specs.Fitting.{AreInRow, IsPlaced}
+use Rattle.run_model.proofs.Lists.{each_append}
 use Rattle.run_model.proofs.Own.{own_front}
-use Rattle.run_model.proofs.Agreed.{held_agree}
+use Rattle.run_model.proofs.Alike.{AllAlike, held_alike}
 use Rattle.causal_store.specs.Stores.{IsStore}
 use Rattle.replica_core.specs.Tables.{low_need}
-use Rattle.replica_core.specs.Replicas.{CanLearn, HasLearned, HasLogged, HasLoggedAll, IsReplica, KnowsOwn, holds_of, known_to, own_log, standing_of, with_items}
+use Rattle.replica_core.specs.Replicas.{CanLearn, HasLearned, HasLogged, HasLoggedAll, IsKnown, IsReplica, KnowsOwn, holds_of, known_to, own_log, standing_of, with_items}
 use Rattle.replica_core.specs.declared.replica.Replica.{Replica}
-use Rattle.replica_core.proofs.Logged.{all_agree, OthersSame}
+use Rattle.replica_core.proofs.Alike.{HasGrown, all_alike}
+use Rattle.replica_core.proofs.Logged.{OthersSame}
 
 -- ---- wants and needs of rights to lower cells
 
@@ -99,6 +100,25 @@ pub logged_append : (me : ℕ) (bs cs : List Body) (p : Standing) → logged_all
 logged_append me [] cs p = refl
 logged_append me (b ∷ bs) cs p = logged_append me bs cs (logged me b p)
 
+-- the items of these bodies, logged one after the other
+abbrev pub items_for : ℕ → List Body → Standing → List LogItem
+items_for me [] p = []
+items_for me (b ∷ bodies) p = record { origin = me; index = length p.log; deps = p.cut; body = b } ∷ items_for me bodies (logged me b p)
+
+pub logged_items : (me : ℕ) (bodies : List Body) (p : Standing) → (logged_all me bodies p).log ≡ p.log ++ items_for me bodies p
+logged_items me [] p = sym (append-nil p.log)
+logged_items me (b ∷ bodies) p =
+    let item : LogItem = record { origin = me; index = length p.log; deps = p.cut; body = b } in
+    logged_items me bodies (logged me b p) ∙ append_assoc p.log (item ∷ []) (items_for me bodies (logged me b p))
+
+pub bodies_back : (me : ℕ) (bodies : List Body) (p : Standing) → map (λ (i : LogItem). i.body) (items_for me bodies p) ≡ bodies
+bodies_back me [] p = refl
+bodies_back me (b ∷ bodies) p = ap (λ (l : List Body). b ∷ l) (bodies_back me bodies (logged me b p))
+
+pub items_long : (me : ℕ) (bodies : List Body) (p : Standing) → length (items_for me bodies p) ≡ length bodies
+items_long me [] p = refl
+items_long me (b ∷ bodies) p = let rest = items_long me bodies (logged me b p) in omega (arith, rest)
+
 -- setting a place twice
 pub set_again : (logs : Logs) (i : ℕ) (x y : List LogItem) → set (set logs i x) i y ≡ set logs i y
 set_again [] i x y = refl
@@ -152,6 +172,16 @@ accepts_more me items k x lt is = ap (accepts_of me) (take_more items k x lt is)
     flat_push : (xs : List LogItem) (x : LogItem) → accepts_of me (xs ++ x ∷ []) ≡ accepts_of me xs ++ accept_of me x.origin x.index x.body
     flat_push xs x = flat_map-append (λ (i : LogItem). accept_of me i.origin i.index i.body) xs (x ∷ []) ∙ ap (λ (bs : List Body). accepts_of me xs ++ bs) (flat_one (λ (i : LogItem). accept_of me i.origin i.index i.body) x)
 
+-- what holds of an Accept of each item holds of the Accepts of those that are given to this replica
+pub accepts_each : (P : Body → Type 0) (me : ℕ) (items : List LogItem) → AllByRecursion (λ x. P (body.Accept x.origin x.index)) items → AllByRecursion P (accepts_of me items)
+accepts_each P me [] all = tt
+accepts_each P me (x ∷ items) all = each_append P (accept_of me x.origin x.index x.body) (accepts_of me items) (of_body x.body) (accepts_each P me items all.1)
+  where
+    of_body : (b : Body) → AllByRecursion P (accept_of me x.origin x.index b)
+    of_body (body.Act inst) = tt
+    of_body (body.Out to r given) = cond_both (to == me) (body.Accept x.origin x.index ∷ []) [] (AllByRecursion P) (λ mine. (all.0, tt)) (λ others. tt)
+    of_body (body.Accept from at) = tt
+
 -- of one item at most one thing is accepted
 pub accept_few : (me origin index : ℕ) (b : Body) → length (accept_of me origin index b) ≤ 1
 accept_few me origin index (body.Act inst) = omega arith
@@ -172,8 +202,8 @@ with_more from known items x lt =
     ∙ ap (λ (l : List LogItem). slice_set known from (l ++ x ∷ [])) (get_or-set_same known from (log_at known from ++ items) [] lt) ∙ ap (slice_set known from) (append_assoc (log_at known from) items (x ∷ []))
 
 -- nothing is learned at first
-pub learned_nothing : (spec : Spec) (r : Replica) → IsStore spec (length (known_to r)) r.store → HasLearned spec [] r r
-learned_nothing spec r store = record { kept = refl; store = store; logs = λ from row lt. sym (set_back (known_to r) from) }
+pub learned_nothing : (r : Replica) → IsStore (length (known_to r)) r.store → HasLearned [] r r
+learned_nothing r store = record { kept = refl; store = store; logs = λ from row lt. sym (set_back (known_to r) from) }
   where
     set_back : (logs : Logs) (i : ℕ) → set logs i (log_at logs i ++ []) ≡ logs
     set_back [] i = refl
@@ -185,13 +215,13 @@ pub first_in_row : (from at : ℕ) (x : LogItem) (items : List LogItem) → AreI
 first_in_row from at x items row = (row.0, row.1)
 
 -- one item more was learned
-pub learned_more : (spec : Spec) (front rest : List LogItem) (x : LogItem) (old mid new : Replica) → HasLearned spec front old mid → CanLearn spec mid (x ∷ rest) → new ≡ record mid { store = new.store } → IsStore spec (length (known_to mid)) new.store
-    → known_to new ≡ slice_set (known_to mid) x.origin (log_at (known_to mid) x.origin ++ x ∷ []) → length (known_to mid) ≡ length (known_to old) → HasLearned spec (front ++ x ∷ []) old new × CanLearn spec new rest
-learned_more spec front rest x old mid new learned can kept store logs whole =
+pub learned_more : (front rest : List LogItem) (x : LogItem) (old mid new : Replica) → HasLearned front old mid → CanLearn mid (x ∷ rest) → new ≡ record mid { store = new.store } → IsStore (length (known_to mid)) new.store
+    → known_to new ≡ slice_set (known_to mid) x.origin (log_at (known_to mid) x.origin ++ x ∷ []) → length (known_to mid) ≡ length (known_to old) → HasLearned (front ++ x ∷ []) old new × CanLearn new rest
+learned_more front rest x old mid new learned can kept store logs whole =
     let size : length (known_to new) ≡ length (known_to mid) = ap length logs ∙ length-set (known_to mid) x.origin (log_at (known_to mid) x.origin ++ x ∷ []) in (
       record {
         kept = kept ∙ ap (λ (r : Replica). let q : Replica = record r { store = new.store } in q) learned.kept;
-        store = subst (λ n. IsStore spec n new.store) whole store;
+        store = subst (λ n. IsStore n new.store) whole store;
         logs = λ from row lt.
             let before = learned.logs from (own_front from (length (log_at (known_to old) from)) front (x ∷ []) row) lt in
             let here : x.origin ≡ from = last_origin from (length (log_at (known_to old) from)) front x row in
@@ -199,7 +229,7 @@ learned_more spec front rest x old mid new learned can kept store logs whole =
       },
       record {
         from = can.from;
-        store = subst (λ n. IsStore spec n new.store) (sym size) store;
+        store = subst (λ n. IsStore n new.store) (sym size) store;
         place = omega (arith, can.place, size);
         row =
             let here : x.origin ≡ can.from = can.row.0 in
@@ -207,7 +237,7 @@ learned_more spec front rest x old mid new learned can kept store logs whole =
             ap (λ (l : Logs). log_at l can.from) (logs ∙ ap (λ o. slice_set (known_to mid) o (log_at (known_to mid) o ++ x ∷ [])) here) ∙ get_or-set_same (known_to mid) can.from (log_at (known_to mid) can.from ++ x ∷ []) [] can.place in
             let long : length (log_at (known_to mid) can.from) + 1 ≡ length (log_at (known_to new) can.from) = omega (arith, ap length there, length_push (log_at (known_to mid) can.from) x) in
             subst (λ n. AreInRow can.from n rest) long can.row.3;
-        fits = subst (λ n. AllByRecursion (ItemFits spec n) rest) (sym size) can.fits.1;
+        fits = subst (λ n. AllByRecursion (IsPlaced n) rest) (sym size) can.fits.1;
       },
     )
   where
@@ -238,9 +268,11 @@ pub others_known : (known : Logs) (new : Replica) → KnowsOwn known new → Oth
 others_known known new knows j ne = sym (ap (λ (l : Logs). log_at l j) knows ∙ get_or-set_other known new.me j (own_log new) [] ne)
 
 -- what it holds by what was known is what it holds by what is known
-pub holds_known : (setup : Setup) (known : Logs) (new : Replica) (stamp : ℕ) (sendings : List Sending) → IsReplica setup new.me new → KnowsOwn known new → holding setup known new.me (standing_of stamp sendings new) ≡ holds_of setup new
-holds_known setup known new stamp sendings own knows =
-    held_agree setup known (known_to new) new.me (standing_of stamp sendings new) (all_agree new.me known (known_to new) (known_to new) (own_log new) (others_known known new knows) own.known)
+pub own_alike : (known : Logs) (new : Replica) → AllByRecursion (λ item. IsKnown (known_to new) new.me item.body) (own_log new) → KnowsOwn known new → HasGrown known new → AllAlike known (known_to new) (own_log new)
+own_alike known new all knows grown = all_alike new.me known (known_to new) grown.more (own_log new) (others_known known new knows) grown.log all grown.early
+
+pub holds_known : (setup : Setup) (known : Logs) (new : Replica) (stamp : ℕ) (sendings : List Sending) → IsReplica setup new.me new → KnowsOwn known new → HasGrown known new → holding setup known new.me (standing_of stamp sendings new) ≡ holds_of setup new
+holds_known setup known new stamp sendings own knows grown = held_alike setup known (known_to new) new.me (own_log new) (own_alike known new own.known knows grown)
 
 -- at most one piece is given to each want
 pub given_few : (o : Option Piece) (to : ℕ) (r : Right) → length (given o to r) ≤ 1
@@ -249,22 +281,22 @@ given_few (Some pc) to r = omega arith
 
 -- ---- lists of needs and wants
 
-pub lacking_first : (h : Need → Held) (x : Need) (rest : List Need) (o : Option Lacking) → o ≡ first_lacking h (x ∷ []) → is_some o ≡ true → o ≡ first_lacking h (x ∷ rest)
-lacking_first h x rest o is some = is ∙ by_test (is_met h x) refl
+pub lacking_first : (n : ℕ) (h : Need → Held) (x : Need) (rest : List Need) (o : Option Lacking) → o ≡ first_lacking n h (x ∷ []) → is_some o ≡ true → o ≡ first_lacking n h (x ∷ rest)
+lacking_first n h x rest o is some = is ∙ by_test (is_met n h x) refl
   where
-    by_test : (b : Bool) → is_met h x ≡ b → cond (is_met h x) None (Some (record { need = x; held = h x })) ≡ cond (is_met h x) (first_lacking h rest) (Some (record { need = x; held = h x }))
-    by_test true met = absurd (no_lacking (is ∙ cond-true (is_met h x) None (Some (record { need = x; held = h x })) met))
+    by_test : (b : Bool) → is_met n h x ≡ b → cond (is_met n h x) None (Some (record { need = x; held = h x })) ≡ cond (is_met n h x) (first_lacking n h rest) (Some (record { need = x; held = h x }))
+    by_test true met = absurd (no_lacking (is ∙ cond-true (is_met n h x) None (Some (record { need = x; held = h x })) met))
       where
         no_lacking : o ≡ None → ⊥
         no_lacking none = let empty : Option Lacking = None in let t : is_some empty ≡ true = ap is_some (sym none) ∙ some in absurd cc
-    by_test false unmet = cond-false (is_met h x) None (Some (record { need = x; held = h x })) unmet ∙ sym (cond-false (is_met h x) (first_lacking h rest) (Some (record { need = x; held = h x })) unmet)
+    by_test false unmet = cond-false (is_met n h x) None (Some (record { need = x; held = h x })) unmet ∙ sym (cond-false (is_met n h x) (first_lacking n h rest) (Some (record { need = x; held = h x })) unmet)
 
-pub lacking_next : (h : Need → Held) (x : Need) (rest : List Need) (o : Option Lacking) → o ≡ first_lacking h (x ∷ []) → is_some o ≡ false → first_lacking h (x ∷ rest) ≡ first_lacking h rest
-lacking_next h x rest o is none = by_test (is_met h x) refl
+pub lacking_next : (n : ℕ) (h : Need → Held) (x : Need) (rest : List Need) (o : Option Lacking) → o ≡ first_lacking n h (x ∷ []) → is_some o ≡ false → first_lacking n h (x ∷ rest) ≡ first_lacking n h rest
+lacking_next n h x rest o is none = by_test (is_met n h x) refl
   where
-    by_test : (b : Bool) → is_met h x ≡ b → cond (is_met h x) (first_lacking h rest) (Some (record { need = x; held = h x })) ≡ first_lacking h rest
-    by_test true met = cond-true (is_met h x) (first_lacking h rest) (Some (record { need = x; held = h x })) met
-    by_test false unmet = absurd (a_lacking (is ∙ cond-false (is_met h x) None (Some (record { need = x; held = h x })) unmet))
+    by_test : (b : Bool) → is_met n h x ≡ b → cond (is_met n h x) (first_lacking n h rest) (Some (record { need = x; held = h x })) ≡ first_lacking n h rest
+    by_test true met = cond-true (is_met n h x) (first_lacking n h rest) (Some (record { need = x; held = h x })) met
+    by_test false unmet = absurd (a_lacking (is ∙ cond-false (is_met n h x) None (Some (record { need = x; held = h x })) unmet))
       where
         a_lacking : o ≡ Some (record { need = x; held = h x }) → ⊥
         a_lacking some = let full : Option Lacking = Some (record { need = x; held = h x }) in let t : is_some full ≡ false = ap is_some (sym some) ∙ none in absurd cc

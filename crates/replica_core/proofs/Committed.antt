@@ -1,12 +1,13 @@
 -- What was decided is done once its batch is committed.
 use Rattle.std.proofs.Common.{◌≡◌, inl, inr, ℕ, zero, suc, ◌+◌, ◌<◌, ◌≤◌, ◌^◌, List, [], ◌∷◌, ◌++◌, length, map, take, drop, refl, sym, ap, subst, ◌∙◌, arith, length-append, length-take}
-use Rattle.std.specs.Prelude.{Some, None, slice_index, sum_by}
+use Rattle.std.specs.Prelude.{Some, None, Option, slice_index, sum_by}
 use Rattle.std.specs.List.{AllByRecursion}
 use Rattle.std.proofs.lemmas.List.{append_assoc, append_cancel_left, take-append-drop}
 use Rattle.std.proofs.lemmas.Option.{slice_get_within}
 use Rattle.spec_model.specs.declared.plan.Setup.{Setup}
 use Rattle.spec_model.specs.declared.instance.Inst.{Inst}
 use Rattle.spec_model.specs.declared.instance.Cell.{Cell}
+use Rattle.spec_model.specs.declared.right.Lacking.{Lacking}
 use Rattle.spec_model.specs.declared.right.Right.TheVariants as right
 use Rattle.spec_model.specs.declared.log.Body.{Body}
 use Rattle.spec_model.specs.declared.log.Body.TheVariants as body
@@ -21,13 +22,15 @@ use Rattle.run_model.specs.declared.step.Outcome.TheVariants as outcomes
 use Rattle.run_model.specs.Logs.{Logs, item_at, items_in, log_at}
 use Rattle.run_model.specs.Worlds.{Sending, Standing, logged}
 use Rattle.run_model.specs.Steps.{AreAdmitted, Requests, Takes, accepts_of, answered, cut_after, dropped, received, unseen}
-use Rattle.run_model.specs.Fitting.{AreInRow, ItemFits, MessageFits}
+use Rattle.run_model.specs.Fitting.{AreInRow, IsPlaced, ItemFits, MessageFits}
 use Rattle.run_model.proofs.Escrow.{spends_held}
-use Rattle.run_model.specs.Rights.{first_lacking, held_count, held_of}
+use Rattle.run_model.specs.Levels.{first_lacking}
+use Rattle.run_model.specs.Rights.{held_count}
+use Rattle.run_model.specs.Holding.{held_of}
 use Rattle.run_model.specs.States.{truth_of}
 use Rattle.run_model.specs.Wants.{still_wanted}
 use Rattle.run_model.proofs.Lists.{each_append, each_weaker}
-use Rattle.causal_store.specs.Stores.{cut_in, logs_in}
+use Rattle.causal_store.specs.Stores.{cut_in, logs_in, state_truths}
 use Rattle.causal_store.specs.declared.store.Store.{Store}
 use Rattle.replica_core.specs.Tables.{AreHeld}
 use Rattle.replica_core.specs.Replicas.{AreCovered, HasAnswered, HasLearned, HasLoggedAll, HasTaken, IsKnown, IsReplica, KnowsOwn, holds_of, known_to, own_log, standing_of, with_items}
@@ -38,12 +41,13 @@ use Rattle.replica_core.specs.declared.decision.Decision.{Decision}
 use Rattle.replica_core.specs.declared.decision.Decision.TheVariants as decision
 use Rattle.replica_core.specs.declared.decision.Taken.{Taken}
 use Rattle.replica_core.specs.declared.replica.Replica.{Replica}
+use Rattle.replica_core.proofs.Changes.{bodies_back, items_for, items_long, logged_items}
 use Rattle.replica_core.proofs.Finished.{Drops, has_taken, left_answers, left_stands, outs_of}
-use Rattle.replica_core.proofs.Needed.{answered_done}
-use Rattle.replica_core.proofs.Next.{accepts_free, answered_gives, bodies_back, free_next, gives_few, gives_for, gives_next, items_for, items_long, logged_items}
 use Rattle.replica_core.proofs.Looking.{heeds_like}
+use Rattle.replica_core.proofs.Needed.{answered_done}
+use Rattle.replica_core.proofs.Next.{accepts_free, answered_gives, free_next, gives_few, gives_for, gives_next}
+use Rattle.replica_core.proofs.Received.{Admits, HasReceived, Learns, accepts_few, cut_counts, has_received, items_placed, learned_stands, part_of, told_of}
 use Rattle.replica_core.proofs.Silent.{heeded_or_nothing}
-use Rattle.replica_core.proofs.Received.{Admits, HasReceived, Learns, accepts_few, cut_counts, items_placed, has_received, learned_stands, part_of, told_of}
 
 pub front_of : {X : Type 0} (xs ys : List X) (n : ℕ) → n ≡ length xs → take n (xs ++ ys) ≡ xs
 front_of [] ys zero is = refl
@@ -66,7 +70,7 @@ act_next setup r inst batch items fits decides is =
         is = refl;
         fits = fits;
         known = tt;
-        enough = λ cell among. spends_held setup (known_to r) r.me (standing_of 0 [] r) inst (right.Low cell) among decides.0;
+        enough = λ cell among. spends_held setup (known_to r) r.me (own_log r) (state_truths setup.spec r.store) inst (right.Low cell) among decides.0;
       },
       tt,
     )
@@ -151,7 +155,7 @@ accepts_next setup message r heard learned taken front accepts outs h admits lea
     let part = part_of setup me message (cut_in r.store) front h.fits parts.admitted in
     let known : Logs = known_to learned in
     let logs : known ≡ with_items message.from front (known_to r) = learns.logs ∙ ap (λ (s : Replica). with_items message.from front (known_to s)) admits.heard in
-    let placed = items_placed message.from (slice_index (cut_in r.store) message.from) (known_to r) front part.row (cut_counts setup.spec setup.replicas r message.from h.own.store) (omega (arith, h.fits.sender, h.own.store.whole)) in
+    let placed = items_placed message.from (slice_index (cut_in r.store) message.from) (known_to r) front part.row (cut_counts setup.replicas r message.from h.own.store) (omega (arith, h.fits.sender, h.own.store.whole)) in
     let all : AllByRecursion (λ x. IsKnown known me (body.Accept x.origin x.index)) front = each_known (slice_index (cut_in r.store) message.from) front part.row (subst (λ (l : Logs). AllByRecursion (λ x. item_at l x.origin x.index ≡ Some x) front) (sym logs) placed) in
     let mine : learned.me ≡ me = ap (λ (s : Replica). s.me) learns.kept ∙ ap (λ (s : Replica). s.me) admits.heard in
     let stands : standing_of 0 [] learned ≡ start_of message r front = learned_stands setup message r heard learned front 0 [] admits learns in
@@ -186,7 +190,7 @@ outs_same setup message r mid left taken front accepts outs h drops =
 
 pub outs_next : (setup : Setup) (message : Message) (r mid left : Replica) (taken : Taken) (front accepts outs : List LogItem) → Splits setup message r taken front accepts outs → Drops setup message r mid left front → AreNext setup (known_to left) left.me (standing_of 0 [] left) outs
 outs_next setup message r mid left taken front accepts outs h drops =
-    subst (AreNext setup (known_to left) left.me (standing_of 0 [] left)) (sym (outs_same setup message r mid left taken front accepts outs h drops)) (gives_next setup (known_to left) left.me message.from message.wants (standing_of 0 [] left) h.fits.sender h.fits.wants)
+    subst (AreNext setup (known_to left) left.me (standing_of 0 [] left)) (sym (outs_same setup message r mid left taken front accepts outs h drops)) (gives_next setup (known_to left) left.me message.from message.wants (standing_of 0 [] left) h.own.alone h.fits.sender h.fits.wants)
 
 pub outs_short : (setup : Setup) (message : Message) (r mid left : Replica) (taken : Taken) (front accepts outs : List LogItem) → Splits setup message r taken front accepts outs → Drops setup message r mid left front → length outs ≤ 8
 outs_short setup message r mid left taken front accepts outs h drops =
@@ -206,7 +210,7 @@ taken_done setup message r mid left new taken front accepts outs h drops logged 
     subst (λ (o : Outcome). HasTaken setup message r o new) outcome (has_taken setup message r mid left new front drops (subst (λ (bs : List Body). HasLoggedAll setup bs left new) these logged) h.fits.few_wants)
 
 -- the batch has as many items of its own
-pub accepted_within : (setup : Setup) (message : Message) (r : Replica) (taken : Taken) → IsReplica setup r.me r → MessageFits setup.spec setup.replicas r.me message → IsTaken setup message r taken → taken.accepted ≤ length (drop taken.applied taken.batch.items)
+pub accepted_within : (setup : Setup) (message : Message) (r : Replica) (taken : Taken) → IsReplica setup r.me r → MessageFits setup r.me message → IsTaken setup message r taken → taken.accepted ≤ length (drop taken.applied taken.batch.items)
 accepted_within setup message r taken own fits decided =
     let items : List LogItem = taken.batch.items in
     let left : List LogItem = drop taken.applied items in
@@ -218,13 +222,13 @@ accepted_within setup message r taken own fits decided =
 pub joined_back : (n : ℕ) (xs ys zs : List LogItem) → ys ≡ take n xs → zs ≡ drop n xs → xs ≡ ys ++ zs
 joined_back n xs ys zs a b = sym (ap (λ (l : List LogItem). l ++ zs) a ∙ ap (λ (l : List LogItem). take n xs ++ l) b ∙ take-append-drop n xs)
 
-pub received_of : (setup : Setup) (message : Message) (r heard learned new : Replica) (taken : Taken) (front accepts outs : List LogItem) → Splits setup message r taken front accepts outs → Admits setup r.me message r heard front → HasLearned setup.spec front heard learned
+pub received_of : (setup : Setup) (message : Message) (r heard learned new : Replica) (taken : Taken) (front accepts outs : List LogItem) → Splits setup message r taken front accepts outs → Admits setup r.me message r heard front → HasLearned front heard learned
     → HasLoggedAll setup (map (λ (i : LogItem). i.body) accepts) learned new → HasReceived setup message r front new
 received_of setup message r heard learned new taken front accepts outs h admits learns logged =
     has_received setup message r heard learned new front admits learns (subst (λ (bs : List Body). HasLoggedAll setup bs learned new) (accepts_bodies setup message r taken front accepts outs h) logged)
 
-pub drops_of : (setup : Setup) (message : Message) (r mid left : Replica) (front : List LogItem) → HasReceived setup message r front mid → left ≡ record mid { wants = still_wanted (holds_of setup mid) mid.wants } → Drops setup message r mid left front
-drops_of setup message r mid left front received is = record { received = received; wants = still_wanted (holds_of setup mid) mid.wants; wants_are = refl; left_is = is }
+pub drops_of : (setup : Setup) (message : Message) (r mid left : Replica) (front : List LogItem) → HasReceived setup message r front mid → left ≡ record mid { wants = still_wanted setup.replicas (holds_of setup mid) mid.wants } → Drops setup message r mid left front
+drops_of setup message r mid left front received is = record { received = received; wants = still_wanted setup.replicas (holds_of setup mid) mid.wants; wants_are = refl; left_is = is }
 
 -- ---- room
 
@@ -240,12 +244,14 @@ same_store setup old s own logs cut =
       own = record {
         me_is = refl;
         within = own.within;
+        alone = own.alone;
         store = record {
           whole = ap length logs ∙ own.store.whole;
           few = own.store.few;
           counts = cut ∙ own.store.counts ∙ ap (map (λ (l : List LogItem). length l)) back;
-          fits = subst (AllByRecursion (AllByRecursion (ItemFits setup.spec setup.replicas))) back own.store.fits;
+          fits = subst (AllByRecursion (AllByRecursion (IsPlaced setup.replicas))) back own.store.fits;
         };
+        fits = subst (AllByRecursion (AllByRecursion (ItemFits setup))) back own.fits;
         own = subst (λ (l : Logs). AreInRow me 0 (log_at l me)) back own.own;
         known = subst (λ (l : Logs). AllByRecursion (λ (i : LogItem). IsKnown l me i.body) (log_at l me)) back own.known;
         covered = subst (λ (l : Logs). AreCovered setup l me (log_at l me)) back own.covered;
@@ -296,11 +302,15 @@ same_store setup old s own logs cut =
     same_broken inst =
         ap (λ (l : Logs). broken_by setup.spec (truth_of setup.spec (items_in (cut_in old.store) l)) inst) (sym logs) ∙ ap (λ (k : List ℕ). broken_by setup.spec (truth_of setup.spec (items_in k (logs_in s))) inst) (sym cut)
 
+    same_truths : (inst : Inst) (o : Option Lacking) → first_lacking setup.replicas (holds_of setup old) (needs setup (truth_of setup.spec (items_in (cut_in old.store) (known_to old))) inst) ≡ o
+        → first_lacking setup.replicas (holds_of setup old) (needs setup (truth_of setup.spec (items_in (cut_in s) (known_to old))) inst) ≡ o
+    same_truths inst o h = subst (λ (k : List ℕ). first_lacking setup.replicas (holds_of setup old) (needs setup (truth_of setup.spec (items_in k (known_to old))) inst) ≡ o) (sym cut) h
+
     same_decision : (inst : Inst) (d : Decision) → Decides setup inst old d → Decides setup inst (record old { store = s }) d
     same_decision inst (decision.Breaks broken) h = sym (same_broken inst) ∙ h
-    same_decision inst (decision.Short lacking) h = (subst (λ (l : Logs). first_lacking (λ need. held_of setup l old.me (log_at l old.me) need) (needs setup inst) ≡ Some lacking) (sym logs) h.0, h.1, sym (same_broken inst) ∙ h.2)
+    same_decision inst (decision.Short lacking) h = (subst (λ (l : Logs). first_lacking setup.replicas (λ need. held_of setup l old.me (log_at l old.me) need) (needs setup (truth_of setup.spec (items_in (cut_in s) l)) inst) ≡ Some lacking) (sym logs) (same_truths inst (Some lacking) h.0), h.1, sym (same_broken inst) ∙ h.2)
     same_decision inst (decision.Act batch) h = (
-      subst (λ (l : Logs). first_lacking (λ need. held_of setup l old.me (log_at l old.me) need) (needs setup inst) ≡ None) (sym logs) h.0,
+      subst (λ (l : Logs). first_lacking setup.replicas (λ need. held_of setup l old.me (log_at l old.me) need) (needs setup (truth_of setup.spec (items_in (cut_in s) l)) inst) ≡ None) (sym logs) (same_truths inst None h.0),
       h.1 ∙ ap (λ (l : Logs). record { origin = old.me; index = length (log_at l old.me); deps = cut_in old.store; body = body.Act inst } ∷ []) (sym logs) ∙ ap (λ (k : List ℕ). record { origin = old.me; index = length (log_at (logs_in s) old.me); deps = k; body = body.Act inst } ∷ []) (sym cut),
       sym (same_broken inst) ∙ h.2,
     )
@@ -312,7 +322,7 @@ stays_same setup old new own kept logs cut = subst (StaysSame setup old) (sym ke
 abbrev pub IsOfOne : ℕ → LogItem → Type 0
 IsOfOne replicas i = i.origin < replicas
 
-taken_origins : (setup : Setup) (r : Replica) (message : Message) (taken : Taken) → IsReplica setup r.me r → MessageFits setup.spec setup.replicas r.me message → IsTaken setup message r taken → AllByRecursion (IsOfOne setup.replicas) taken.batch.items
+taken_origins : (setup : Setup) (r : Replica) (message : Message) (taken : Taken) → IsReplica setup r.me r → MessageFits setup r.me message → IsTaken setup message r taken → AllByRecursion (IsOfOne setup.replicas) taken.batch.items
 taken_origins setup r message taken own fits decided =
     let items : List LogItem = taken.batch.items in
     let left : List LogItem = drop taken.applied items in
@@ -325,7 +335,7 @@ taken_origins setup r message taken own fits decided =
     let outs_are : drop taken.accepted left ≡ items_for r.me gives before =
     append_cancel_left before.log (drop taken.accepted left) (items_for r.me gives before) (sym parts.outs_end ∙ ap (λ (p : Standing). p.log) (answered_gives setup logs r.me message.from message.wants before) ∙ logged_items r.me gives before) in
     let own_part = each_append (IsOfOne setup.replicas) (take taken.accepted left) (drop taken.accepted left) (subst (AllByRecursion (IsOfOne setup.replicas)) (sym parts.accepts_are) (all_own (accepts_of r.me front) (start_of message r front))) (subst (AllByRecursion (IsOfOne setup.replicas)) (sym outs_are) (all_own gives before)) in
-    let all = each_append (IsOfOne setup.replicas) front left (each_weaker (ItemFits setup.spec setup.replicas) (IsOfOne setup.replicas) (λ i h. h.origin) front part.fits) (subst (AllByRecursion (IsOfOne setup.replicas)) (sym (joined_back taken.accepted left (take taken.accepted left) (drop taken.accepted left) refl refl)) own_part) in
+    let all = each_append (IsOfOne setup.replicas) front left (each_weaker (ItemFits setup) (IsOfOne setup.replicas) (λ i h. h.placed.origin) front part.fits) (subst (AllByRecursion (IsOfOne setup.replicas)) (sym (joined_back taken.accepted left (take taken.accepted left) (drop taken.accepted left) refl refl)) own_part) in
     subst (AllByRecursion (IsOfOne setup.replicas)) (sym (joined_back taken.applied items front left refl refl)) all
   where
     all_own : (bodies : List Body) (p : Standing) → AllByRecursion (IsOfOne setup.replicas) (items_for r.me bodies p)
@@ -341,7 +351,7 @@ decided_origins setup r batch own (inr (message, taken, takes, is)) = subst (λ 
 ])
 
 -- a batch of a take: the items that were admitted, and then those of its own
-pub decided_parts : (setup : Setup) (message : Message) (r : Replica) (taken : Taken) → IsReplica setup r.me r → MessageFits setup.spec setup.replicas r.me message → IsTaken setup message r taken → let front : List LogItem = take taken.applied taken.batch.items in let logs : Logs = with_items message.from front (known_to r) in let before : Standing = before_of setup message r front in
+pub decided_parts : (setup : Setup) (message : Message) (r : Replica) (taken : Taken) → IsReplica setup r.me r → MessageFits setup r.me message → IsTaken setup message r taken → let front : List LogItem = take taken.applied taken.batch.items in let logs : Logs = with_items message.from front (known_to r) in let before : Standing = before_of setup message r front in
     AreAdmitted (cut_in r.store) message.items front × (taken.batch.items ≡ front ++ (items_for r.me (accepts_of r.me front) (start_of message r front) ++ items_for r.me (gives_for setup logs r.me message.from message.wants before) before))
 decided_parts setup message r taken own fits decided =
     let items : List LogItem = taken.batch.items in

@@ -37,7 +37,8 @@ use Rattle.replica_core.specs.declared.decision.Taken.{Taken}
 use Rattle.replica_core.specs.declared.draft.Draft.{Draft}
 use Rattle.replica_core.specs.declared.replica.Replica.{Replica}
 use Rattle.replica_core.proofs.Changes.{answered_append, given_few, logged_append}
-use Rattle.replica_core.proofs.Received.{agrees_stays, cut_applied, cut_counts, cut_long, items_placed, part_of, told_of}
+use Rattle.replica_core.proofs.Logged.{cut_long}
+use Rattle.replica_core.proofs.Received.{agrees_stays, cut_applied, cut_counts, items_placed, part_of, told_of}
 
 -- ---- several bodies
 
@@ -120,7 +121,7 @@ accepts_gain spec logs me x (y ∷ items) all =
 -- a draft with the items of a message that are applied, before anything is accepted
 pub record Starts (setup : Setup) (message : Message) (r : Replica) (d : Draft) : Type 0 where
   pub own : IsReplica setup r.me r
-  pub fits : MessageFits setup.spec setup.replicas r.me message
+  pub fits : MessageFits setup r.me message
   pub admitted : AreAdmitted (cut_in r.store) message.items d.applied
   pub none : d.own ≡ []
   pub cut : d.cut ≡ cut_after (cut_in r.store) d.applied
@@ -135,14 +136,14 @@ started setup message r d h =
     let from : ℕ = message.from in
     let cut : List ℕ = cut_in r.store in
     let c : ℕ = slice_index cut from in
-    let long : length cut ≡ setup.replicas = cut_long setup.spec setup.replicas r h.own.store in
+    let long : length cut ≡ setup.replicas = cut_long setup.replicas r h.own.store in
     let part = part_of setup me message cut d.applied h.fits h.admitted in
     let is : d.cut ≡ slice_set cut from (c + length d.applied) = h.cut ∙ cut_applied from c cut d.applied part.row refl (omega (arith, h.fits.sender, long)) in
     let other : me ≢ from = λ same. h.fits.other (sym same) in
     record {
       place = omega (arith, ap length is, length-set cut from (c + length d.applied), long, h.own.within);
       counts =
-          let here : slice_index d.cut me ≡ length (own_log r) = ap (λ (k : List ℕ). slice_index k me) is ∙ get_or-set_other cut from me (c + length d.applied) 0 other ∙ cut_counts setup.spec setup.replicas r me h.own.store in
+          let here : slice_index d.cut me ≡ length (own_log r) = ap (λ (k : List ℕ). slice_index k me) is ∙ get_or-set_other cut from me (c + length d.applied) 0 other ∙ cut_counts setup.replicas r me h.own.store in
           omega (arith, here, ap length h.none);
     }
 
@@ -155,7 +156,7 @@ accepted_draft setup message r old new h made =
     let part = part_of setup me message (cut_in r.store) old.applied h.fits h.admitted in
     let placed : AllByRecursion (λ y. item_at logs y.origin y.index ≡ Some y) old.applied =
     subst (λ i. AllByRecursion (λ y. item_at (with_items i old.applied known) y.origin y.index ≡ Some y) old.applied) (sym h.from)
-    (items_placed message.from (slice_index (cut_in r.store) message.from) known old.applied part.row (cut_counts setup.spec setup.replicas r message.from h.own.store) (omega (arith, h.fits.sender, h.own.store.whole))) in
+    (items_placed message.from (slice_index (cut_in r.store) message.from) known old.applied part.row (cut_counts setup.replicas r message.from h.own.store) (omega (arith, h.fits.sender, h.own.store.whole))) in
     let empty : (f : Body → ℕ) → sum_by (λ (i : LogItem). f i.body) old.own ≡ 0 = λ f. ap (sum_by (λ (i : LogItem). f i.body)) h.none in
     record {
       gains = λ x.
@@ -237,7 +238,7 @@ is_taken setup message r taken first mid last h accepts answers items applied_is
     let logs : Logs = with_items message.from applied (known_to r) in
     let start : Standing = record old { told = told_of message r; cut = cut_after (cut_in r.store) applied } in
     let all : Standing = received me message applied old in
-    let wants : List Want = still_wanted (holding setup logs me all) all.wants in
+    let wants : List Want = still_wanted setup.replicas (holding setup logs me all) all.wants in
     let before : Standing = dropped setup logs me all in
     let after : Standing = answered setup logs me message.from message.wants before in
     let bare : (p : Standing) → p.log ≡ own_log r → p.cut ≡ cut_after (cut_in r.store) applied → drafted first p ≡ p =

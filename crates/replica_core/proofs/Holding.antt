@@ -18,32 +18,21 @@ use Rattle.spec_model.specs.declared.right.Right.TheVariants as right
 use Rattle.spec_model.specs.declared.log.Body.{Body}
 use Rattle.spec_model.specs.declared.log.Body.TheVariants as body
 use Rattle.spec_model.specs.declared.log.LogItem.{LogItem}
-use Rattle.spec_model.specs.Bounds.{IsAtLeast, IsAtMost}
 use Rattle.spec_model.specs.Fits.{BoundFits, IsWellFormed, NumFits}
 use Rattle.spec_model.specs.Universe.{below, lower_bound}
 use Rattle.spec_model.specs.Changes.{net_rise}
 use Rattle.effect_model.proofs.Sums.{changes_small}
-use Rattle.run_model.specs.Balance.{body_creates, body_spends, held_in, in_flight}
-use Rattle.run_model.specs.Logs.{Logs, items_in, log_at}
-use Rattle.run_model.specs.Rights.{first_count, held_count, natural}
+use Rattle.run_model.specs.Balance.{body_creates, body_spends, held_in}
+use Rattle.run_model.specs.Logs.{IsConsistent, Logs, items_in, log_at}
+use Rattle.run_model.specs.Rights.{first_count, flight_of, held_count, natural, out_gives}
 use Rattle.run_model.specs.Worlds.{Standing, logs_of}
-use Rattle.run_model.proofs.Here.{held_known, kept_from_first}
-use Rattle.run_model.proofs.Sound.{runs_are_sound}
+use Rattle.run_model.proofs.Alike.{counts_alike}
+use Rattle.run_model.proofs.Balanced.{balanced}
+use Rattle.run_model.proofs.Here.{kept_from_first}
+use Rattle.run_model.proofs.Known.{all_alike}
+use Rattle.run_model.proofs.Sound.{keeps_held, run_keeps}
 use Rattle.run_model.proofs.WorldLogs.{logs_there}
-use Rattle.replica_core.specs.Laws.{FirstsKeepBounds, HoldsAreSmall}
-
--- ---- first values
-
-num_keeps_bounds : (spec : Spec) (nums : List Num) (k : ℕ) → AllByRecursion (NumFits spec) nums
-    → IsAtLeast (option_map_or (λ n. n.min) (slice_get nums k) None) (option_map_or (λ n. n.init) (slice_get nums k) (pos 0))
-    × IsAtMost (option_map_or (λ n. n.max) (slice_get nums k) None) (option_map_or (λ n. n.init) (slice_get nums k) (pos 0))
-num_keeps_bounds spec [] k all = (tt, tt)
-num_keeps_bounds spec (n ∷ nums) zero all = (all.0.not_below, all.0.not_above)
-num_keeps_bounds spec (n ∷ nums) (suc k) all = num_keeps_bounds spec nums k all.1
-
--- each cell begins within its bounds
-pub first_keeps_bounds : FirstsKeepBounds
-first_keeps_bounds spec well cell among = num_keeps_bounds spec spec.nums cell.num well.nums
+use Rattle.replica_core.specs.Laws.{HoldsAreSmall}
 
 -- ---- first rights
 
@@ -126,16 +115,18 @@ holds_small setup entries world me l cell well few some runs stands short among 
     let logs : Logs = logs_of world in
     let items : List LogItem = items_in p.cut logs in
     let kept = kept_from_first setup entries world runs in
-    let sound = runs_are_sound setup entries world some (first_keeps_bounds spec well) runs in
-    let cut = sound.cuts me p stands.is in
+    let keeps = run_keeps setup entries world runs in
+    let held = keeps_held setup world some keeps in
+    let cut : IsConsistent logs p.cut × (slice_index p.cut me ≡ length p.log) = (keeps.cuts.cuts me p stands.is, (kept.each me p stands.is).stands.whole) in
+    let well_stood = (kept.each me p stands.is).stands in
     let same : held_count setup l.known me p.log r ≡ held_count setup logs me p.log r =
-    ap (λ (f : Right → ℕ). f r) (held_known setup logs l.known me p.log p.cut stands.knows (kept.each me p stands.is).stands.seen) in
+    ap (λ (f : Right → ℕ). f r) (counts_alike setup l.known logs me p.log (all_alike logs p.cut l.known p.log stands.knows well_stood.seen well_stood.pasts)) in
     let there : log_at logs me ≡ p.log = logs_there world me p stands.is in
     let whole : take (slice_index p.cut me) (log_at logs me) ≡ p.log = ap (take (slice_index p.cut me)) there ∙ take_all (slice_index p.cut me) p.log (omega (arith, cut.1)) in
     let replicas : length logs ≡ length world = length-map world (λ (q : Standing). q.log) in
     let term = term_small (λ (k : ℕ). held_count setup logs k (take (slice_index p.cut k) (log_at logs k)) r) (length logs) me (omega (arith, replicas, slice_get_within world me p stands.is)) in
     let one : held_count setup logs me p.log r ≤ held_in setup logs p.cut r = subst (λ (own : List LogItem). held_count setup logs me own r ≤ held_in setup logs p.cut r) whole term in
-    let most = held_at_most (held_count setup logs me p.log r) (held_in setup logs p.cut r) (in_flight r items) (sum_by (λ i. body_spends spec r i.body) items) (first_count spec r) (sum_by (λ i. body_creates spec r i.body) items)
-    (sound.balanced p.cut r cut.0 among) one in
+    let most = held_at_most (held_count setup logs me p.log r) (held_in setup logs p.cut r) (flight_of (out_gives r) items) (sum_by (λ i. body_spends spec r i.body) items) (first_count spec r) (sum_by (λ i. body_creates spec r i.body) items)
+    (balanced setup logs p.cut r held cut.0 among) one in
     let count = few_items 4194304 p.cut logs short in
     omega (arith, same, most, first_small spec cell well, all_created spec cell items well, count, replicas, kept.whole, few)

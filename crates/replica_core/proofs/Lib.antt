@@ -4,6 +4,8 @@ pub mod Logged
 pub mod Begun
 pub mod Wanted
 pub mod Lists
+pub mod Lows
+pub mod Alike
 pub mod Rotated
 pub mod Changes
 pub mod Needed

@@ -1,12 +1,13 @@
 -- Lists up to a place, and from it on.
-use Rattle.std.proofs.Common.{◌≡◌, ℕ, zero, suc, ◌+◌, ◌<◌, List, [], ◌∷◌, ◌++◌, length, get_or, map, filter, take, drop, Bool, sym, ap, ◌∙◌, arith}
-use Rattle.std.specs.Prelude.{slice_get, Some}
-use Rattle.std.specs.List.{flat_map}
+use Rattle.std.proofs.Common.{◌≡◌, ℕ, zero, suc, ◌+◌, ◌<◌, refl, List, [], ◌∷◌, ◌++◌, length, get_or, map, filter, take, drop, Bool, sym, ap, ◌∙◌, arith}
+use Rattle.std.specs.Prelude.{Contains, slice_get, Some}
+use Rattle.std.specs.List.{AllByRecursion, flat_map}
 use Rattle.std.proofs.lemmas.Option.{same_Some}
 use Rattle.std.proofs.lemmas.List.Concat.{flat_map-cons}
 use Rattle.std.proofs.lemmas.Grind.{flat_map-append}
 use Rattle.std.proofs.lemmas.List.{append-nil, map-append}
 use Rattle.std.proofs.lemmas.List.Elements.{filter-append}
+use Rattle.run_model.proofs.Lists.{each_weaker}
 
 -- one element more
 pub take_more : {X : Type 0} (xs : List X) (k : ℕ) (x : X) → k < length xs → x ≡ get_or xs k x → take (k + 1) xs ≡ take k xs ++ x ∷ []
@@ -37,3 +38,8 @@ map_at f xs k x there = ap (map f) (take_at xs k x there) ∙ map-append f (take
 
 pub flat_at : {X Y : Type 0} (f : X → List Y) (xs : List X) (k : ℕ) (x : X) → slice_get xs k ≡ Some x → flat_map f (take (k + 1) xs) ≡ flat_map f (take k xs) ++ f x
 flat_at {X} {Y} f xs k x there = ap (flat_map f) (take_at xs k x there) ∙ flat_map-append f (take k xs) (x ∷ []) ∙ ap (λ (ys : List Y). flat_map f (take k xs) ++ ys) (flat_map-cons f x [] ∙ append-nil (f x))
+
+-- each element of a list is in it
+pub each_among : {X : Type 0} (xs : List X) → AllByRecursion (Contains xs) xs
+each_among [] = tt
+each_among (x ∷ xs) = ((0, omega arith, refl), each_weaker (Contains xs) (Contains (x ∷ xs)) (λ y h. (suc h.0, omega (arith, h.1), h.2)) xs (each_among xs))

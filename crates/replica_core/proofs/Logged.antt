@@ -2,7 +2,7 @@
 use Rattle.std.proofs.Common.{◌≡◌, ◌≢◌, ℕ, zero, suc, ◌+◌, ◌-◌, ◌*◌, ◌<◌, ◌≤◌, ◌^◌, List, [], ◌∷◌, ◌++◌, length, map, refl, sym, ap, subst, ◌∙◌, arith}
 use Rattle.std.specs.Prelude.{slice_get, slice_index, slice_set, Some, Result, Ok, Err, OnOk, Contains, sum_by}
 use Rattle.std.specs.List.{AllByRecursion}
-use Rattle.std.proofs.lemmas.List.{get_or-set_same, get_or-set_other, length_push, map-set}
+use Rattle.std.proofs.lemmas.List.{get_or-set_same, get_or-set_other, length-map, length_push, map-set}
 use Rattle.std.proofs.lemmas.List.Sums.{sum_by_push}
 use Rattle.spec_model.specs.declared.plan.Setup.{Setup}
 use Rattle.spec_model.specs.declared.instance.Cell.{Cell}
@@ -15,11 +15,12 @@ use Rattle.spec_model.specs.Universe.{cells}
 use Rattle.run_model.specs.Logs.{Logs, log_at}
 use Rattle.run_model.specs.Rights.{body_gains, body_loses, held_count}
 use Rattle.run_model.specs.Worlds.{Standing}
-use Rattle.run_model.specs.Fitting.{AreInRow, WantFits}
+use Rattle.run_model.specs.Fitting.{AreInRow, BodyFits, ItemFits, WantFits}
 use Rattle.run_model.proofs.Lists.{each_append, each_weaker}
 use Rattle.run_model.proofs.Own.{own_append}
 use Rattle.run_model.proofs.Agreed.{Agrees, AllAgree, gains_agree, gains_all_agree}
 use Rattle.causal_store.specs.Stores.{IsStore, cut_in}
+use Rattle.causal_store.proofs.Stored.{each_log, each_set}
 use Rattle.replica_core.specs.Tables.{AreUpTo}
 use Rattle.replica_core.specs.Replicas.{HasLogged, IsKnown, IsReplica, item_of, known_to, own_log, standing_of}
 use Rattle.replica_core.specs.declared.replica.Replica.{Replica}
@@ -63,13 +64,19 @@ count_at [] i = refl
 count_at (log ∷ logs) zero = refl
 count_at (log ∷ logs) (suc i) = count_at logs i
 
+-- a cut of a store counts the items of each replica
+pub cut_long : (replicas : ℕ) (r : Replica) → IsStore replicas r.store → length (cut_in r.store) ≡ replicas
+cut_long replicas r store = ap length store.counts ∙ length-map (known_to r) (λ (l : List LogItem). length l) ∙ store.whole
+
 -- a replica that logged an item, kept what it holds beside it, and all else as it was
 pub record LogsOne (setup : Setup) (b : Body) (old new : Replica) (counts : List ℕ) : Type 0 where
   pub own : IsReplica setup old.me old
   pub kept : new ≡ record old { lows = counts; store = new.store }
   pub logs : known_to new ≡ slice_set (known_to old) old.me (own_log old ++ item_of old b ∷ [])
-  pub store : IsStore setup.spec (length (known_to old)) new.store
+  pub store : IsStore (length (known_to old)) new.store
   pub known : IsKnown (known_to old) old.me b
+  pub fits : BodyFits setup b
+  pub room : length (own_log old) + 1 < 2 ^ 32
   pub long : length counts ≡ length old.lows
   pub at : (i : ℕ) (cell : Cell) → slice_get (cells setup.spec) i ≡ Some cell
       → slice_index counts i + body_loses setup.spec (right.Low cell) b ≡ slice_index old.lows i + body_gains setup.spec (known_to old) (right.Low cell) b
@@ -103,11 +110,16 @@ logs_one setup b old new counts h =
     ∙ ap (slice_set (map (λ (l : List LogItem). length l) known) me) (length_push own item) ∙ ap (λ (c : List ℕ). slice_set c me (length own + 1)) (sym h.own.store.counts) in
     let lows : new.lows ≡ counts = ap (λ (r : Replica). r.lows) h.kept in
     let placed : slice_index item.deps me ≡ length own = ap (λ (c : List ℕ). slice_index c me) h.own.store.counts ∙ count_at known me in
+    let past : length item.deps ≡ setup.replicas = cut_long setup.replicas old h.own.store in
+    let fits : ItemFits setup item = record { placed = record { origin = h.own.within; small = h.room; past = past }; body = h.fits } in
     record {
       own = record {
         me_is = mine;
         within = h.own.within;
-        store = subst (λ n. IsStore spec n new.store) whole h.store;
+        alone = h.own.alone;
+        store = subst (λ n. IsStore n new.store) whole h.store;
+        fits = subst (AllByRecursion (AllByRecursion (ItemFits setup))) (sym h.logs)
+            (each_set (AllByRecursion (ItemFits setup)) known me (own ++ item ∷ []) h.own.fits (each_append (ItemFits setup) own (item ∷ []) (each_log (ItemFits setup) known me h.own.fits) (fits, tt)));
         own = subst (AreInRow me 0) (sym there) (own_append me 0 own (item ∷ []) (length own) (omega arith) h.own.own (refl, refl, placed, tt));
         known = subst (λ (l : List LogItem). AllByRecursion (λ i. IsKnown now me i.body) l) (sym there)
             (each_append (λ (i : LogItem). IsKnown now me i.body) own (item ∷ []) (each_weaker (λ (i : LogItem). IsKnown known me i.body) (λ (i : LogItem). IsKnown now me i.body) (λ i. known_same me known now i.body others) own h.own.known) (known_same me known now b others h.known, tt));
@@ -131,7 +143,7 @@ logs_one setup b old new counts h =
               omega (arith, read, g, l, was, can, held, new_count);
           small = λ i. let up = h.small i in let read : slice_index new.lows i ≡ slice_index counts i = ap (λ (xs : List ℕ). slice_index xs i) lows in omega (arith, read, up, ap length there, length_push own item);
         };
-        wants = subst (λ (r : Replica). AllByRecursion (WantFits spec) r.wants) (sym h.kept) h.own.wants;
+        wants = subst (λ (r : Replica). AllByRecursion (WantFits setup) r.wants) (sym h.kept) h.own.wants;
         few_wants = subst (λ (r : Replica). length r.wants ≤ 8) (sym h.kept) h.own.few_wants;
         told = subst (λ (r : Replica). length r.told ≡ setup.replicas) (sym h.kept) h.own.told;
         told_each = subst (λ (r : Replica). AllByRecursion (λ (c : List ℕ). length c ≡ setup.replicas) r.told) (sym h.kept) h.own.told_each;

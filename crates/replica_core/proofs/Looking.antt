@@ -8,7 +8,6 @@ use Rattle.std.proofs.lemmas.List.{append-nil, append_assoc, take-append-drop, t
 use Rattle.std.proofs.lemmas.List.Elements.{filter-append}
 use Rattle.std.proofs.lemmas.List.Sums.{sum_by-append}
 use Rattle.spec_model.specs.declared.plan.Setup.{Setup}
-use Rattle.spec_model.specs.declared.spec.Spec.{Spec}
 use Rattle.spec_model.specs.declared.instance.Cell.{Cell}
 use Rattle.spec_model.specs.declared.right.Right.TheVariants as right
 use Rattle.spec_model.specs.declared.right.Piece.{Piece}
@@ -32,28 +31,28 @@ use Rattle.replica_core.proofs.Lists.{drop_at_item, take_more}
 -- ---- wants
 
 -- a want that fits is kept, and those behind it
-pub wants_kept : (spec : Spec) (wants : List Want) (k : ℕ) (want : Want) (rest : List Want) → k < length wants → want ≡ get_or wants k want → WantFits spec want → AreFitting spec (drop (k + 1) wants) rest → AreFitting spec (drop k wants) (want ∷ rest)
-wants_kept spec wants k want rest lt is fits behind = subst (λ (l : List Want). AreFitting spec l (want ∷ rest)) (sym (drop_at_item wants k want lt is)) (inl (fits, rest, refl, behind))
+pub wants_kept : (setup : Setup) (wants : List Want) (k : ℕ) (want : Want) (rest : List Want) → k < length wants → want ≡ get_or wants k want → WantFits setup want → AreFitting setup (drop (k + 1) wants) rest → AreFitting setup (drop k wants) (want ∷ rest)
+wants_kept setup wants k want rest lt is fits behind = subst (λ (l : List Want). AreFitting setup l (want ∷ rest)) (sym (drop_at_item wants k want lt is)) (inl (fits, rest, refl, behind))
 
 -- and one that doesn't is passed over
-pub wants_passed : (spec : Spec) (wants : List Want) (k : ℕ) (want : Want) (rest : List Want) → k < length wants → want ≡ get_or wants k want → (WantFits spec want → ⊥) → AreFitting spec (drop (k + 1) wants) rest → AreFitting spec (drop k wants) rest
-wants_passed spec wants k want rest lt is misfit behind = subst (λ (l : List Want). AreFitting spec l rest) (sym (drop_at_item wants k want lt is)) (inr (misfit, behind))
+pub wants_passed : (setup : Setup) (wants : List Want) (k : ℕ) (want : Want) (rest : List Want) → k < length wants → want ≡ get_or wants k want → (WantFits setup want → ⊥) → AreFitting setup (drop (k + 1) wants) rest → AreFitting setup (drop k wants) rest
+wants_passed setup wants k want rest lt is misfit behind = subst (λ (l : List Want). AreFitting setup l rest) (sym (drop_at_item wants k want lt is)) (inr (misfit, behind))
 
 -- those that are kept fit, and are no more
-pub fitting_fit : (spec : Spec) (wants fitting : List Want) → AreFitting spec wants fitting → AllByRecursion (WantFits spec) fitting × (length fitting ≤ length wants)
-fitting_fit spec [] fitting none = (subst (AllByRecursion (WantFits spec)) (sym none) tt, omega (arith, ap length none))
-fitting_fit spec (want ∷ wants) fitting (inl (fits, rest, is, behind)) =
-    let all = fitting_fit spec wants rest behind in
-    (subst (AllByRecursion (WantFits spec)) (sym is) (fits, all.0), omega (arith, ap length is, all.1))
-fitting_fit spec (want ∷ wants) fitting (inr (misfit, behind)) =
-    let all = fitting_fit spec wants fitting behind in
+pub fitting_fit : (setup : Setup) (wants fitting : List Want) → AreFitting setup wants fitting → AllByRecursion (WantFits setup) fitting × (length fitting ≤ length wants)
+fitting_fit setup [] fitting none = (subst (AllByRecursion (WantFits setup)) (sym none) tt, omega (arith, ap length none))
+fitting_fit setup (want ∷ wants) fitting (inl (fits, rest, is, behind)) =
+    let all = fitting_fit setup wants rest behind in
+    (subst (AllByRecursion (WantFits setup)) (sym is) (fits, all.0), omega (arith, ap length is, all.1))
+fitting_fit setup (want ∷ wants) fitting (inr (misfit, behind)) =
+    let all = fitting_fit setup wants fitting behind in
     (all.0, omega (arith, all.1))
 
 -- where all fit all are kept
-pub all_fitting : (spec : Spec) (wants fitting : List Want) → AllByRecursion (WantFits spec) wants → AreFitting spec wants fitting → fitting ≡ wants
-all_fitting spec [] fitting all none = none
-all_fitting spec (want ∷ wants) fitting all (inl (fits, rest, is, behind)) = is ∙ ap (λ (l : List Want). want ∷ l) (all_fitting spec wants rest all.1 behind)
-all_fitting spec (want ∷ wants) fitting all (inr (misfit, behind)) = absurd (misfit all.0)
+pub all_fitting : (setup : Setup) (wants fitting : List Want) → AllByRecursion (WantFits setup) wants → AreFitting setup wants fitting → fitting ≡ wants
+all_fitting setup [] fitting all none = none
+all_fitting setup (want ∷ wants) fitting all (inl (fits, rest, is, behind)) = is ∙ ap (λ (l : List Want). want ∷ l) (all_fitting setup wants rest all.1 behind)
+all_fitting setup (want ∷ wants) fitting all (inr (misfit, behind)) = absurd (misfit all.0)
 
 -- ---- what is given
 
@@ -100,7 +99,7 @@ can_accept setup r before item to cell piece is small other = elim (cases_Bool (
 -- these items may be applied as those of this sender, from this one on
 pub record ApplyFrom (setup : Setup) (r : Replica) (from first : ℕ) (items : List LogItem) : Type 0 where
   pub row : AreInRow from first items
-  pub fits : AllByRecursion (ItemFits setup.spec setup.replicas) items
+  pub fits : AllByRecursion (ItemFits setup) items
   pub accepted : (k : ℕ) (item : LogItem) → slice_get items k ≡ Some item → CanAccept setup r (take k items) item
 
 -- a front of a front
@@ -116,7 +115,7 @@ apply_none setup r from first = record { row = tt; fits = tt; accepted = λ k it
 pub apply_more : (setup : Setup) (r : Replica) (from first index : ℕ) (items : List LogItem) (item : LogItem) → ApplyFrom setup r from first items → index ≡ first + length items → MayFollow setup r from index items item → ApplyFrom setup r from first (items ++ item ∷ [])
 apply_more setup r from first index items item h at may = record {
   row = own_append from first items (item ∷ []) index at h.row (may.is.origin, may.is.index_is, may.is.past, tt);
-  fits = each_append (ItemFits setup.spec setup.replicas) items (item ∷ []) h.fits (may.fits, tt);
+  fits = each_append (ItemFits setup) items (item ∷ []) h.fits (may.fits, tt);
   accepted = λ k x there.
       elim (get_push items item k x there) [
         | inl here ↦ subst (λ (l : List LogItem). CanAccept setup r l x) (sym (take_front items (item ∷ []) k (omega (arith, slice_get_within items k x here)))) (h.accepted k x here)
@@ -139,7 +138,7 @@ apply_last setup r from index items item h at =
       accepted = subst (λ (l : List LogItem). CanAccept setup r l item) front (h.accepted n item there);
     }
   where
-    last_fits : (items : List LogItem) → AllByRecursion (ItemFits setup.spec setup.replicas) (items ++ item ∷ []) → ItemFits setup.spec setup.replicas item
+    last_fits : (items : List LogItem) → AllByRecursion (ItemFits setup) (items ++ item ∷ []) → ItemFits setup item
     last_fits [] all = all.0
     last_fits (x ∷ items) all = last_fits items all.1
 
@@ -180,10 +179,10 @@ whole_front setup r from first items heeded is h = record {
 
 -- ---- what is heeded fits
 
-pub heeded_fits : (setup : Setup) (r : Replica) (message heeded : Message) → IsAddressed setup r.me message → IsPartOf setup r message heeded → MessageFits setup.spec setup.replicas r.me heeded
+pub heeded_fits : (setup : Setup) (r : Replica) (message heeded : Message) → IsAddressed setup r.me message → IsPartOf setup r message heeded → MessageFits setup r.me heeded
 heeded_fits setup r message heeded addressed part =
     let from : heeded.from ≡ message.from = ap (λ (m : Message). m.from) part.all_else in
-    let wants = fitting_fit setup.spec (take 8 message.wants) heeded.wants part.wants in
+    let wants = fitting_fit setup (take 8 message.wants) heeded.wants part.wants in
     record {
       sender = omega (arith, from, addressed.sender);
       other = λ same. addressed.other (sym from ∙ same);
@@ -232,12 +231,12 @@ heeds_like setup a b message heeded same me (inr (astray, is)) = inr (λ address
 
 -- ---- what is heeded whole
 
-fits_all : (spec : Spec) (wants : List Want) → AllByRecursion (WantFits spec) wants → AreFitting spec wants wants
-fits_all spec [] all = refl
-fits_all spec (want ∷ wants) all = inl (all.0, wants, refl, fits_all spec wants all.1)
+fits_all : (setup : Setup) (wants : List Want) → AllByRecursion (WantFits setup) wants → AreFitting setup wants wants
+fits_all setup [] all = refl
+fits_all setup (want ∷ wants) all = inl (all.0, wants, refl, fits_all setup wants all.1)
 
 -- a message of which all that wasn't seen can be accepted is itself heeded
-pub heeds_itself : (setup : Setup) (r : Replica) (message : Message) → MessageFits setup.spec setup.replicas r.me message → ((k : ℕ) (item : LogItem) → slice_get message.items k ≡ Some item → CanAccept setup r (take k message.items) item)
+pub heeds_itself : (setup : Setup) (r : Replica) (message : Message) → MessageFits setup r.me message → ((k : ℕ) (item : LogItem) → slice_get message.items k ≡ Some item → CanAccept setup r (take k message.items) item)
     → Heeds setup r message message
 heeds_itself setup r message fits can = inl (
   record { sender = fits.sender; other = fits.other; receiver = fits.receiver; cut = fits.cut },
@@ -248,13 +247,13 @@ heeds_itself setup r message fits can = inl (
       may = record { first = fits.first; row = fits.row; fits = fits.items; accepted = can };
       longest = λ item behind none may. absurd cc;
     };
-    wants = subst (λ (l : List Want). AreFitting setup.spec l message.wants) (sym (take_all 8 message.wants fits.few_wants)) (fits_all setup.spec message.wants fits.wants);
+    wants = subst (λ (l : List Want). AreFitting setup l message.wants) (sym (take_all 8 message.wants fits.few_wants)) (fits_all setup message.wants fits.wants);
     all_else = refl;
   },
 )
 
 -- and nothing else of it
-pub heeded_whole : (setup : Setup) (r : Replica) (message heeded : Message) → MessageFits setup.spec setup.replicas r.me message → ((k : ℕ) (item : LogItem) → slice_get message.items k ≡ Some item → CanAccept setup r (take k message.items) item)
+pub heeded_whole : (setup : Setup) (r : Replica) (message heeded : Message) → MessageFits setup r.me message → ((k : ℕ) (item : LogItem) → slice_get message.items k ≡ Some item → CanAccept setup r (take k message.items) item)
     → Heeds setup r message heeded → heeded ≡ message
 heeded_whole setup r message heeded fits can (inr (astray, is)) = absurd (astray (record { sender = fits.sender; other = fits.other; receiver = fits.receiver; cut = fits.cut }))
 heeded_whole setup r message heeded fits can (inl (addressed, part)) =
@@ -262,10 +261,10 @@ heeded_whole setup r message heeded fits can (inl (addressed, part)) =
     let front : message.items ≡ heeded.items ++ part.items.rest = sym all ∙ part.items.front in
     let items : heeded.items ≡ message.items = none_behind heeded.items part.items.rest message.items front fits.items fits.row can part.items.longest in
     let eight : take 8 message.wants ≡ message.wants = take_all 8 message.wants fits.few_wants in
-    let wants : heeded.wants ≡ message.wants = all_fitting setup.spec message.wants heeded.wants fits.wants (subst (λ (l : List Want). AreFitting setup.spec l heeded.wants) eight part.wants) in
+    let wants : heeded.wants ≡ message.wants = all_fitting setup message.wants heeded.wants fits.wants (subst (λ (l : List Want). AreFitting setup l heeded.wants) eight part.wants) in
     part.all_else ∙ ap (λ (l : List LogItem). let m : Message = record message { items = l; wants = heeded.wants } in m) items ∙ ap (λ (l : List Want). let m : Message = record message { wants = l } in m) wants
   where
-    none_behind : (front rest items : List LogItem) → items ≡ front ++ rest → AllByRecursion (ItemFits setup.spec setup.replicas) items → AreInRow message.from fits.first items → ((k : ℕ) (item : LogItem) → slice_get items k ≡ Some item → CanAccept setup r (take k items) item)
+    none_behind : (front rest items : List LogItem) → items ≡ front ++ rest → AllByRecursion (ItemFits setup) items → AreInRow message.from fits.first items → ((k : ℕ) (item : LogItem) → slice_get items k ≡ Some item → CanAccept setup r (take k items) item)
         → ((item : LogItem) (behind : List LogItem) → rest ≡ item ∷ behind → MayApply setup r message.from (front ++ item ∷ []) → ⊥) → front ≡ items
     none_behind front [] items is all row can longest = sym (is ∙ append-nil front)
     none_behind front (x ∷ rest) items is all row can longest =
@@ -273,7 +272,7 @@ heeded_whole setup r message heeded fits can (inl (addressed, part)) =
         absurd (longest x rest refl (record {
           first = fits.first;
           row = own_front message.from fits.first (front ++ x ∷ []) rest (subst (AreInRow message.from fits.first) more row);
-          fits = each_front (ItemFits setup.spec setup.replicas) (front ++ x ∷ []) rest (subst (AllByRecursion (ItemFits setup.spec setup.replicas)) more all);
+          fits = each_front (ItemFits setup) (front ++ x ∷ []) rest (subst (AllByRecursion (ItemFits setup)) more all);
           accepted = λ k item there.
               let within = slice_get_within (front ++ x ∷ []) k item there in
               let same : take k items ≡ take k (front ++ x ∷ []) = ap (take k) more ∙ take_front (front ++ x ∷ []) rest k (omega (arith, within)) in

@@ -19,30 +19,31 @@ use Rattle.spec_model.specs.declared.right.Amount.TheVariants as amount
 use Rattle.spec_model.specs.declared.log.Body.TheVariants as body
 use Rattle.spec_model.specs.Universe.{lower_bound, cells, upper_bound}
 use Rattle.spec_model.specs.Changes.{net_fall, net_rise}
-use Rattle.spec_model.specs.Needs.{escrow_need, escrow_needs, spends}
+use Rattle.spec_model.specs.Needs.{escrow_need, escrow_needs, needs, spends}
 use Rattle.effect_model.specs.Amounts.{IsFew}
 use Rattle.run_model.specs.declared.step.Outcome.{Outcome}
 use Rattle.run_model.specs.declared.step.Outcome.TheVariants as outcomes
 use Rattle.run_model.specs.Logs.{Logs}
-use Rattle.run_model.specs.Rights.{first_lacking, is_met}
+use Rattle.run_model.specs.Levels.{first_lacking, is_met}
 use Rattle.run_model.specs.Worlds.{Sending, Standing}
 use Rattle.run_model.specs.Steps.{Requested, Requests}
 use Rattle.run_model.specs.Wants.{behind, is_on, noted, replaced, want_of}
 use Rattle.run_model.specs.Fitting.{WantFits}
-use Rattle.run_model.proofs.Lists.{each_append, each_weaker}
-use Rattle.causal_store.specs.Stores.{IsStore}
-use Rattle.replica_core.specs.Tables.{HasNoUpper, NeedFits, low_need}
+use Rattle.run_model.proofs.Lists.{each_append}
+use Rattle.causal_store.specs.Stores.{IsStore, state_truths}
+use Rattle.replica_core.specs.Tables.{HasLowsAlone, NeedFits, low_need}
 use Rattle.replica_core.specs.Replicas.{HasAnswered, HasLogged, IsReplica, holds_of, item_of, known_to, own_log, standing_of}
 use Rattle.replica_core.specs.Decisions.{broken_here}
 use Rattle.replica_core.specs.declared.replica.Replica.{Replica}
 use Rattle.replica_core.proofs.Changes.{set_back}
+use Rattle.replica_core.proofs.Lists.{each_among}
+use Rattle.replica_core.proofs.Lows.{low_right}
 
 -- ---- needs
 
--- each element of a list is in it
-each_among : {X : Type 0} (xs : List X) → AllByRecursion (Contains xs) xs
-each_among [] = tt
-each_among (x ∷ xs) = ((0, omega arith, refl), each_weaker (Contains xs) (Contains (x ∷ xs)) (λ y h. (suc h.0, omega (arith, h.1), h.2)) xs (each_among xs))
+-- no cell has an upper bound
+abbrev pub HasNoUpper : Spec → Type 0
+HasNoUpper spec = (cell : Cell) → upper_bound spec cell ≡ None
 
 -- no rights to raise a cell are spent where none has an upper bound
 none_raised : (spec : Spec) (inst : Inst) (cell : Cell) → HasNoUpper spec → spends spec inst (right.High cell) ≡ 0
@@ -90,21 +91,21 @@ needs_fit spec inst lower few = of_cells (cells spec) (each_among (cells spec)) 
         (of_cells cs among.1 parts.1)
 
 -- the need that is lacking is one of them
-pub lacking_fits : (P : Need → Type 0) (h : Need → Held) (needs : List Need) (l : Lacking) → AllByRecursion P needs → first_lacking h needs ≡ Some l → P l.need
-lacking_fits P h [] l all is = absurd cc
-lacking_fits P h (need ∷ needs) l all is = by_test (is_met h need) (λ later. lacking_fits P h needs l all.1 later) is
+pub lacking_fits : (P : Need → Type 0) (n : ℕ) (h : Need → Held) (needs : List Need) (l : Lacking) → AllByRecursion P needs → first_lacking n h needs ≡ Some l → P l.need
+lacking_fits P n h [] l all is = absurd cc
+lacking_fits P n h (need ∷ needs) l all is = by_test (is_met n h need) (λ later. lacking_fits P n h needs l all.1 later) is
   where
     need_is : Some (record { need = need; held = h need }) ≡ Some l → need ≡ l.need
     need_is same = cc
 
-    by_test : (b : Bool) → (first_lacking h needs ≡ Some l → P l.need) → cond b (first_lacking h needs) (Some (record { need = need; held = h need })) ≡ Some l → P l.need
+    by_test : (b : Bool) → (first_lacking n h needs ≡ Some l → P l.need) → cond b (first_lacking n h needs) (Some (record { need = need; held = h need })) ≡ Some l → P l.need
     by_test true later same = later same
     by_test false later same = subst P (need_is same) all.0
 
 -- ---- wants
 
-pub want_fits : (spec : Spec) (need : Need) → NeedFits spec need → WantFits spec (want_of need)
-want_fits spec need h = subst (λ m. WantFits spec (want_of m)) (sym h.3) (record { of = (h.2, h.5); much = h.4 })
+pub want_fits : (setup : Setup) (need : Need) → HasLowsAlone setup → NeedFits setup.spec need → WantFits setup (want_of need)
+want_fits setup need alone h = subst (λ m. WantFits setup (want_of m)) (sym h.3) (record { of = low_right setup (right.Low h.0) alone (h.2, h.5); much = (refl, h.4) })
 
 replaced_fit : (P : Want → Type 0) (wants : List Want) (want : Want) → AllByRecursion P wants → P want → AllByRecursion P (replaced wants want)
 replaced_fit P [] want all h = tt
@@ -134,7 +135,7 @@ pub record Hears (setup : Setup) (old new : Replica) : Type 0 where
   pub wants : List Want
   pub told : List (List ℕ)
   pub is : new ≡ record old { wants = wants; told = told }
-  pub fit : AllByRecursion (WantFits setup.spec) wants
+  pub fit : AllByRecursion (WantFits setup) wants
   pub few : length wants ≤ 8
   pub whole : length told ≡ setup.replicas
   pub each : AllByRecursion (λ cut. length cut ≡ setup.replicas) told
@@ -143,7 +144,9 @@ pub heard_replica : (setup : Setup) (me : ℕ) (old new : Replica) → IsReplica
 heard_replica setup me old new own h = subst (IsReplica setup me) (sym h.is) (record {
   me_is = own.me_is;
   within = own.within;
+  alone = own.alone;
   store = own.store;
+  fits = own.fits;
   own = own.own;
   known = own.known;
   covered = own.covered;
@@ -157,34 +160,37 @@ heard_replica setup me old new own h = subst (IsReplica setup me) (sym h.is) (re
 -- ---- requests
 
 -- what it applied is a store, by the logs that it knows
-pub store_whole : (setup : Setup) (r : Replica) → IsReplica setup r.me r → IsStore setup.spec (length (known_to r)) r.store
-store_whole setup r own = subst (λ n. IsStore setup.spec n r.store) (sym own.store.whole) own.store
+pub store_whole : (setup : Setup) (r : Replica) → IsReplica setup r.me r → IsStore (length (known_to r)) r.store
+store_whole setup r own = subst (λ n. IsStore n r.store) (sym own.store.whole) own.store
+
+-- what the instance needs in its state
+abbrev pub needs_here : Setup → Inst → Replica → List Need
+needs_here setup inst r = needs setup (state_truths setup.spec r.store) inst
 
 -- where no clause would break, what is needed decides
 unbroken : (setup : Setup) (inst : Inst) (old new : Replica) (outcome : Outcome) (stamp : ℕ) (sendings : List Sending) → broken_here setup inst old ≡ None
-    → Requested old.me inst None (first_lacking (holds_of setup old) (escrow_needs setup.spec inst)) (standing_of stamp sendings old) outcome (standing_of stamp sendings new)
+    → Requested old.me inst None (first_lacking setup.replicas (holds_of setup old) (needs_here setup inst old)) (standing_of stamp sendings old) outcome (standing_of stamp sendings new)
     → Requests setup (known_to old) old.me inst (standing_of stamp sendings old) outcome (standing_of stamp sendings new)
 unbroken setup inst old new outcome stamp sendings whole is =
-    subst (λ b. Requested old.me inst b (first_lacking (holds_of setup old) (escrow_needs setup.spec inst)) (standing_of stamp sendings old) outcome (standing_of stamp sendings new)) (sym whole) is
+    subst (λ b. Requested old.me inst b (first_lacking setup.replicas (holds_of setup old) (needs_here setup inst old)) (standing_of stamp sendings old) outcome (standing_of stamp sendings new)) (sym whole) is
 
 -- where one would, nothing changes
 pub answered_breaks : (setup : Setup) (r : Replica) (inst : Inst) (broken : Broken) → IsReplica setup r.me r → broken_here setup inst r ≡ Some broken → HasAnswered setup inst r (outcomes.Breaks broken) r
 answered_breaks setup r inst broken own is = record {
   own = own;
   requests = λ stamp sendings.
-      subst (λ b. Requested r.me inst b (first_lacking (holds_of setup r) (escrow_needs setup.spec inst)) (standing_of stamp sendings r) (outcomes.Breaks broken) (standing_of stamp sendings r)) (sym is) (refl, refl);
+      subst (λ b. Requested r.me inst b (first_lacking setup.replicas (holds_of setup r) (needs_here setup inst r)) (standing_of stamp sendings r) (outcomes.Breaks broken) (standing_of stamp sendings r)) (sym is) (refl, refl);
   knows = sym (set_back (known_to r) r.me);
   grown = omega arith;
 }
 
 -- short of a need, which is wanted
-pub answered_short : (setup : Setup) (inst : Inst) (old new : Replica) (l : Lacking) → IsReplica setup old.me old → NeedFits setup.spec l.need → broken_here setup inst old ≡ None
-    → Some l ≡ first_lacking (holds_of setup old) (escrow_needs setup.spec inst) → new ≡ record old { wants = noted old.wants (want_of l.need) } → HasAnswered setup inst old (outcomes.Short l) new
-answered_short setup inst old new l own need whole is becomes =
+pub answered_short : (setup : Setup) (inst : Inst) (old new : Replica) (l : Lacking) → IsReplica setup old.me old → WantFits setup (want_of l.need) → broken_here setup inst old ≡ None
+    → Some l ≡ first_lacking setup.replicas (holds_of setup old) (needs_here setup inst old) → new ≡ record old { wants = noted old.wants (want_of l.need) } → HasAnswered setup inst old (outcomes.Short l) new
+answered_short setup inst old new l own fits whole is becomes =
     let want : Want = want_of l.need in
-    let fits : WantFits setup.spec want = want_fits setup.spec l.need need in
     record {
-      own = heard_replica setup old.me old new own (record { wants = noted old.wants want; told = old.told; is = becomes; fit = noted_fit (WantFits setup.spec) old.wants want own.wants fits; few = noted_few old.wants want own.few_wants; whole = own.told; each = own.told_each });
+      own = heard_replica setup old.me old new own (record { wants = noted old.wants want; told = old.told; is = becomes; fit = noted_fit (WantFits setup) old.wants want own.wants fits; few = noted_few old.wants want own.few_wants; whole = own.told; each = own.told_each });
       requests = λ stamp sendings. unbroken setup inst old new (outcomes.Short l) stamp sendings whole (subst (λ o. Requested old.me inst None o (standing_of stamp sendings old) (outcomes.Short l) (standing_of stamp sendings new)) is (refl, ap (standing_of stamp sendings) becomes));
       knows = subst (λ (r : Replica). known_to r ≡ set_log r) (sym becomes) (sym (set_back (known_to old) old.me));
       grown = omega (arith, ap (λ (r : Replica). length (own_log r)) becomes);
@@ -194,7 +200,7 @@ answered_short setup inst old new l own need whole is becomes =
     set_log r = slice_set (known_to old) r.me (own_log r)
 
 -- done where nothing is lacking
-pub answered_done : (setup : Setup) (inst : Inst) (old new : Replica) (index : ℕ) → index ≡ length (own_log old) → broken_here setup inst old ≡ None → None ≡ first_lacking (holds_of setup old) (escrow_needs setup.spec inst) → HasLogged setup (body.Act inst) old new
+pub answered_done : (setup : Setup) (inst : Inst) (old new : Replica) (index : ℕ) → index ≡ length (own_log old) → broken_here setup inst old ≡ None → None ≡ first_lacking setup.replicas (holds_of setup old) (needs_here setup inst old) → HasLogged setup (body.Act inst) old new
     → HasAnswered setup inst old (outcomes.Done index) new
 answered_done setup inst old new index at whole is h = record {
   own = h.own;

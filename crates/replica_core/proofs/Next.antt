@@ -1,11 +1,9 @@
 -- Items that a replica may log next, one after the other.
-use Rattle.std.proofs.Common.{◌≡◌, ℕ, zero, suc, ◌+◌, ◌-◌, ◌/◌, ◌<◌, ◌≤◌, ◌^◌, min, Bool, true, false, cond, List, [], ◌∷◌, ◌++◌, length, get_or, map, refl, sym, ap, subst, ◌∙◌, arith, length-append}
+use Rattle.std.proofs.Common.{◌≡◌, ℕ, zero, suc, ◌+◌, ◌-◌, ◌/◌, ◌<◌, ◌≤◌, ◌^◌, min, Bool, true, false, cond, List, [], ◌∷◌, ◌++◌, length, get_or, refl, sym, ap, subst, ◌∙◌, arith, length-append}
 use Rattle.std.specs.Prelude.{Some, None, Option, Contains, sum_by, slice_get, ◌==◌}
 use Rattle.std.specs.List.{AllByRecursion}
-use Rattle.std.proofs.lemmas.Bool.{cond_both}
-use Rattle.std.proofs.lemmas.List.{append_assoc, append-nil}
+use Rattle.std.proofs.lemmas.Bool.{eqb-false}
 use Rattle.spec_model.specs.declared.plan.Setup.{Setup}
-use Rattle.spec_model.specs.declared.spec.Spec.{Spec}
 use Rattle.spec_model.specs.declared.instance.Cell.{Cell}
 use Rattle.spec_model.specs.declared.right.Right.{Right}
 use Rattle.spec_model.specs.declared.right.Right.TheVariants as right
@@ -20,31 +18,32 @@ use Rattle.spec_model.specs.declared.log.Body.TheVariants as body
 use Rattle.spec_model.specs.declared.log.LogItem.{LogItem}
 use Rattle.spec_model.specs.Universe.{cells}
 use Rattle.run_model.specs.Logs.{Logs, item_at, log_at}
-use Rattle.run_model.specs.Rights.{body_loses, even_share, first_count, held_count, same_right}
+use Rattle.run_model.specs.Rights.{body_loses, even_share, first_total, held_count, same_right}
 use Rattle.run_model.specs.Worlds.{Standing, Sending, holding, logged, logged_all}
-use Rattle.run_model.specs.Steps.{accept_of, accepts_of, answered, given}
-use Rattle.run_model.specs.Wants.{need_of, piece_for}
-use Rattle.run_model.specs.Fitting.{AskFits, BodyFits, ItemFits, RightFits, WantFits}
+use Rattle.run_model.specs.Steps.{accepts_of, answered, given}
+use Rattle.run_model.specs.Wants.{amount_of, need_of, piece_for}
+use Rattle.run_model.specs.Fitting.{BodyFits, IsPlaced, ItemFits, RightFits, WantFits}
 use Rattle.run_model.proofs.Lists.{each_append, each_at, each_weaker}
 use Rattle.run_model.proofs.Escrow.{same_right_is}
 use Rattle.run_model.proofs.Agreed.{AllAgree, gains_all_agree}
 use Rattle.causal_store.specs.Stores.{IsStore}
 use Rattle.replica_core.specs.Replicas.{HasLogged, HasRoom, IsKnown, IsReplica, item_of, known_to, own_log, standing_of}
+use Rattle.replica_core.specs.Tables.{AsksCount, HasLowsAlone, IsLow}
 use Rattle.replica_core.specs.Decisions.{AreNext, IsNext}
 use Rattle.replica_core.specs.declared.replica.Replica.{Replica}
-use Rattle.replica_core.proofs.Changes.{logged_append, others_known}
-use Rattle.replica_core.proofs.Logged.{OthersSame, all_agree, known_same}
-use Rattle.replica_core.proofs.Received.{cut_long, each_in_log}
+use Rattle.causal_store.proofs.Stored.{each_log}
+use Rattle.replica_core.proofs.Changes.{accepts_each, items_for, logged_append, others_known}
+use Rattle.replica_core.proofs.Logged.{OthersSame, all_agree, cut_long, known_same}
+use Rattle.replica_core.proofs.Lows.{want_low}
 
 -- ---- one item
 
 -- the next item of a replica fits the store
-pub next_fits : (spec : Spec) (r : Replica) (b : Body) (item : LogItem) → IsStore spec (length (known_to r)) r.store → r.me < length (known_to r) → item ≡ item_of r b → BodyFits spec (length (known_to r)) b → HasRoom 1 r → ItemFits spec (length (known_to r)) item
-next_fits spec r b item store place is fits room = subst (ItemFits spec (length (known_to r))) (sym is) (record {
+pub next_fits : (r : Replica) (b : Body) (item : LogItem) → IsStore (length (known_to r)) r.store → r.me < length (known_to r) → item ≡ item_of r b → HasRoom 1 r → IsPlaced (length (known_to r)) item
+next_fits r b item store place is room = subst (IsPlaced (length (known_to r))) (sym is) (record {
   origin = place;
   small = room;
-  past = cut_long spec (length (known_to r)) r store;
-  body = fits;
+  past = cut_long (length (known_to r)) r store;
 })
 
 -- by logs that are the same but for the own one the same items are next
@@ -53,7 +52,7 @@ next_agree setup me a b p [] same known next = tt
 next_agree setup me a b p (x ∷ items) same known next =
     let agree : AllAgree a b p.log = all_agree me a b a p.log same known in
     let count : (r : Right) → held_count setup a me p.log r ≡ held_count setup b me p.log r =
-    λ r. ap (λ n. (even_share (first_count setup.spec r) setup.replicas me + n) - sum_by (λ (i : LogItem). body_loses setup.spec r i.body) p.log) (gains_all_agree setup.spec a b r p.log agree) in (
+    λ r. ap (λ n. (even_share (first_total setup r) setup.replicas me + n) - sum_by (λ (i : LogItem). body_loses setup.spec r i.body) p.log) (gains_all_agree setup.spec a b r p.log agree) in (
       record {
         is = next.0.is;
         fits = next.0.fits;
@@ -74,30 +73,9 @@ next_then setup b old new items h next own known =
     let there : AreNext setup (known_to new) me p items = next_agree setup me (known_to old) (known_to new) p items others (each_append (λ (i : LogItem). IsKnown (known_to old) me i.body) (own_log old) _ own.known (known, tt)) next in
     subst (λ i. AreNext setup (known_to new) i (standing_of 0 [] new) items) (sym mine) (subst (λ (q : Standing). AreNext setup (known_to new) me q items) (sym (h.stands 0 [])) there)
 
--- ---- the items that bodies make
-
--- the items of these bodies, logged one after the other
-abbrev pub items_for : ℕ → List Body → Standing → List LogItem
-items_for me [] p = []
-items_for me (b ∷ bodies) p = record { origin = me; index = length p.log; deps = p.cut; body = b } ∷ items_for me bodies (logged me b p)
-
-pub logged_items : (me : ℕ) (bodies : List Body) (p : Standing) → (logged_all me bodies p).log ≡ p.log ++ items_for me bodies p
-logged_items me [] p = sym (append-nil p.log)
-logged_items me (b ∷ bodies) p =
-    let item : LogItem = record { origin = me; index = length p.log; deps = p.cut; body = b } in
-    logged_items me bodies (logged me b p) ∙ append_assoc p.log (item ∷ []) (items_for me bodies (logged me b p))
-
-pub bodies_back : (me : ℕ) (bodies : List Body) (p : Standing) → map (λ (i : LogItem). i.body) (items_for me bodies p) ≡ bodies
-bodies_back me [] p = refl
-bodies_back me (b ∷ bodies) p = ap (λ (l : List Body). b ∷ l) (bodies_back me bodies (logged me b p))
-
-pub items_long : (me : ℕ) (bodies : List Body) (p : Standing) → length (items_for me bodies p) ≡ length bodies
-items_long me [] p = refl
-items_long me (b ∷ bodies) p = let rest = items_long me bodies (logged me b p) in omega (arith, rest)
-
 -- what a replica may log: it loses nothing, and accepts what is known
 abbrev pub IsFree : Setup → Logs → ℕ → Body → Type 0
-IsFree setup logs me b = BodyFits setup.spec setup.replicas b × IsKnown logs me b × ((r : Right) → body_loses setup.spec r b ≡ 0)
+IsFree setup logs me b = BodyFits setup b × IsKnown logs me b × ((r : Right) → body_loses setup.spec r b ≡ 0)
 
 pub free_next : (setup : Setup) (logs : Logs) (me : ℕ) (bodies : List Body) (p : Standing) → AllByRecursion (IsFree setup logs me) bodies → AreNext setup logs me p (items_for me bodies p)
 free_next setup logs me [] p all = tt
@@ -106,31 +84,21 @@ free_next setup logs me (b ∷ bodies) p all = (
   free_next setup logs me bodies (logged me b p) all.1,
 )
 
--- what holds of an Accept of each item holds of the Accepts of those that are given to this replica
-pub accepts_each : (P : Body → Type 0) (me : ℕ) (items : List LogItem) → AllByRecursion (λ x. P (body.Accept x.origin x.index)) items → AllByRecursion P (accepts_of me items)
-accepts_each P me [] all = tt
-accepts_each P me (x ∷ items) all = each_append P (accept_of me x.origin x.index x.body) (accepts_of me items) (of_body x.body) (accepts_each P me items all.1)
-  where
-    of_body : (b : Body) → AllByRecursion P (accept_of me x.origin x.index b)
-    of_body (body.Act inst) = tt
-    of_body (body.Out to r given) = cond_both (to == me) (body.Accept x.origin x.index ∷ []) [] (AllByRecursion P) (λ mine. (all.0, tt)) (λ others. tt)
-    of_body (body.Accept from at) = tt
-
 -- the Accepts of items that fit do
-pub accepts_fit : (spec : Spec) (replicas me : ℕ) (items : List LogItem) → AllByRecursion (ItemFits spec replicas) items → AllByRecursion (BodyFits spec replicas) (accepts_of me items)
-accepts_fit spec replicas me items fit =
-    accepts_each (BodyFits spec replicas) me items (each_weaker (ItemFits spec replicas) (λ (x : LogItem). BodyFits spec replicas (body.Accept x.origin x.index)) (λ x h. (h.origin, h.small)) items fit)
+pub accepts_fit : (setup : Setup) (me : ℕ) (items : List LogItem) → AllByRecursion (ItemFits setup) items → AllByRecursion (BodyFits setup) (accepts_of me items)
+accepts_fit setup me items fit =
+    accepts_each (BodyFits setup) me items (each_weaker (ItemFits setup) (λ (x : LogItem). BodyFits setup (body.Accept x.origin x.index)) (λ x h. (h.placed.origin, h.placed.small)) items fit)
 
 -- the Accepts of applied items lose nothing
-pub accepts_free : (setup : Setup) (logs : Logs) (me : ℕ) (items : List LogItem) → AllByRecursion (ItemFits setup.spec setup.replicas) items → AllByRecursion (λ x. IsKnown logs me (body.Accept x.origin x.index)) items → AllByRecursion (IsFree setup logs me) (accepts_of me items)
+pub accepts_free : (setup : Setup) (logs : Logs) (me : ℕ) (items : List LogItem) → AllByRecursion (ItemFits setup) items → AllByRecursion (λ x. IsKnown logs me (body.Accept x.origin x.index)) items → AllByRecursion (IsFree setup logs me) (accepts_of me items)
 accepts_free setup logs me items fit all = accepts_each (IsFree setup logs me) me items (both items fit all)
   where
-    both : (items : List LogItem) → AllByRecursion (ItemFits setup.spec setup.replicas) items → AllByRecursion (λ x. IsKnown logs me (body.Accept x.origin x.index)) items → AllByRecursion (λ x. IsFree setup logs me (body.Accept x.origin x.index)) items
+    both : (items : List LogItem) → AllByRecursion (ItemFits setup) items → AllByRecursion (λ x. IsKnown logs me (body.Accept x.origin x.index)) items → AllByRecursion (λ x. IsFree setup logs me (body.Accept x.origin x.index)) items
     both [] fit all = tt
-    both (x ∷ items) fit all = (((fit.0.origin, fit.0.small), all.0, λ r. refl), both items fit.1 all.1)
+    both (x ∷ items) fit all = (((fit.0.placed.origin, fit.0.placed.small), all.0, λ r. refl), both items fit.1 all.1)
 
 -- what is next fits
-pub next_bodies : (setup : Setup) (logs : Logs) (me : ℕ) (bodies : List Body) (p : Standing) → AreNext setup logs me p (items_for me bodies p) → AllByRecursion (BodyFits setup.spec setup.replicas) bodies
+pub next_bodies : (setup : Setup) (logs : Logs) (me : ℕ) (bodies : List Body) (p : Standing) → AreNext setup logs me p (items_for me bodies p) → AllByRecursion (BodyFits setup) bodies
 next_bodies setup logs me [] p next = tt
 next_bodies setup logs me (b ∷ bodies) p next = (next.0.fits, next_bodies setup logs me bodies (logged me b p) next.1)
 
@@ -174,13 +142,13 @@ gives_few setup logs me to (w ∷ wants) p =
 
 -- a piece that is given of a right that is held
 pub record Gives (setup : Setup) (held_low : Cell → ℕ) (b : Body) : Type 0 where
-  pub fits : BodyFits setup.spec setup.replicas b
+  pub fits : BodyFits setup b
   pub out : (logs : Logs) (me : ℕ) → IsKnown logs me b
   pub enough : (cell : Cell) → Contains (cells setup.spec) cell → body_loses setup.spec (right.Low cell) b ≤ held_low cell
 
 -- at most half of a count, rounded up
-count_given : (setup : Setup) (held_of_low : Cell → ℕ) (to : ℕ) (cell : Cell) (n : ℕ) → to < setup.replicas → RightFits setup.spec (right.Low cell) → n < 2 ^ 64 → AllByRecursion (Gives setup held_of_low) (given (piece_for (held.Count (held_of_low cell)) (asked.Count n)) to (right.Low cell))
-count_given setup held_of_low to cell n peer among small = by_test (g == 0)
+count_given : (setup : Setup) (held_of_low : Cell → ℕ) (to : ℕ) (cell : Cell) (n : ℕ) → to < setup.replicas → RightFits setup (right.Low cell) → n < 2 ^ 64 → AllByRecursion (Gives setup held_of_low) (given (piece_for (held.Count (held_of_low cell)) (asked.Count n)) to (right.Low cell))
+count_given setup held_of_low to cell n peer among small = by_test (g == 0) refl
   where
     g : ℕ
     g = min n ((held_of_low cell + 1) / 2)
@@ -192,26 +160,28 @@ count_given setup held_of_low to cell n peer among small = by_test (g == 0)
     loses d known true is = let same : cell ≡ d = low_is cell d (same_right_is setup.spec (right.Low cell) (right.Low d) known is) in subst (λ c. g ≤ held_of_low c) same (omega arith)
     loses d known false is = omega arith
 
-    by_test : (t : Bool) → AllByRecursion (Gives setup held_of_low) (given (cond t None (Some (piece.Count g))) to (right.Low cell))
-    by_test true = tt
-    by_test false = (
-      record {
-        fits = (peer, among, (let less : g < 2 ^ 64 = omega (arith, small) in less));
-        out = λ logs me. tt;
-        enough = λ d known. loses d known (same_right (right.Low cell) (right.Low d)) refl;
-      },
-      tt,
-    )
+    by_test : (t : Bool) → (g == 0) ≡ t → AllByRecursion (Gives setup held_of_low) (given (cond t None (Some (piece.Count g))) to (right.Low cell))
+    by_test true is = tt
+    by_test false is =
+        let some = eqb-false g 0 is in (
+          record {
+            fits = (peer, among, (refl, (let more : 1 ≤ g = omega (arith, some) in more), (let less : g < 2 ^ 64 = omega (arith, small) in less)));
+            out = λ logs me. tt;
+            enough = λ d known. loses d known (same_right (right.Low cell) (right.Low d)) refl;
+          },
+          tt,
+        )
 
--- of a right to lower a cell
-given_fits : (setup : Setup) (holds : Right → ℕ) (to : ℕ) (r : Right) (ask : WantAsk) → to < setup.replicas → RightFits setup.spec r → AskFits ask → AllByRecursion (Gives setup (λ cell. holds (right.Low cell))) (given (piece_for (held.Count (holds r)) ask) to r)
-given_fits setup holds to (right.Low cell) (asked.Count n) peer right_fits ask_fits = count_given setup (λ c. holds (right.Low c)) to cell n peer right_fits ask_fits
-given_fits setup holds to (right.Low cell) (asked.Level l) peer right_fits ask_fits = absurd ask_fits
-given_fits setup holds to (right.Low cell) (asked.Points span) peer right_fits ask_fits = absurd ask_fits
-given_fits setup holds to (right.High cell) ask peer right_fits ask_fits = absurd right_fits
-given_fits setup holds to (right.Lock lock key) ask peer right_fits ask_fits = absurd right_fits
-given_fits setup holds to (right.Entry clause args literal) ask peer right_fits ask_fits = absurd right_fits
-given_fits setup holds to (right.Part part key) ask peer right_fits ask_fits = absurd right_fits
+-- of a right to lower a cell, to one who wants some
+low_given : (setup : Setup) (logs : Logs) (me to : ℕ) (p : Standing) (r : Right) (ask : WantAsk) → to < setup.replicas → RightFits setup r → IsLow setup.spec r → AsksCount ask
+    → AllByRecursion (Gives setup (λ cell. held_count setup logs me p.log (right.Low cell))) (given (piece_for (holding setup logs me p (record { right = r; amount = amount_of ask })) ask) to r)
+low_given setup logs me to p (right.Low cell) (asked.Count n) peer fits low counts = count_given setup (λ c. held_count setup logs me p.log (right.Low c)) to cell n peer fits counts
+low_given setup logs me to p (right.Low cell) (asked.Level l) peer fits low counts = absurd counts
+low_given setup logs me to p (right.Low cell) (asked.Points span) peer fits low counts = absurd counts
+low_given setup logs me to p (right.High cell) ask peer fits low counts = absurd low
+low_given setup logs me to p (right.Lock lock key) ask peer fits low counts = absurd low
+low_given setup logs me to p (right.Entry clause args literal) ask peer fits low counts = absurd low
+low_given setup logs me to p (right.Part part key) ask peer fits low counts = absurd low
 
 -- in front of others that are next
 piece_next : (setup : Setup) (logs : Logs) (me to : ℕ) (r : Right) (o : Option Piece) (bodies : List Body) (p : Standing) → AllByRecursion (Gives setup (λ cell. held_count setup logs me p.log (right.Low cell))) (given o to r)
@@ -219,12 +189,13 @@ piece_next : (setup : Setup) (logs : Logs) (me to : ℕ) (r : Right) (o : Option
 piece_next setup logs me to r None bodies p all rest = rest
 piece_next setup logs me to r (Some pc) bodies p all rest = (record { is = refl; fits = all.0.fits; known = all.0.out logs me; enough = all.0.enough }, rest)
 
-pub gives_next : (setup : Setup) (logs : Logs) (me to : ℕ) (wants : List Want) (p : Standing) → to < setup.replicas → AllByRecursion (WantFits setup.spec) wants → AreNext setup logs me p (items_for me (gives_for setup logs me to wants p) p)
-gives_next setup logs me to [] p peer all = tt
-gives_next setup logs me to (w ∷ wants) p peer all =
+pub gives_next : (setup : Setup) (logs : Logs) (me to : ℕ) (wants : List Want) (p : Standing) → HasLowsAlone setup → to < setup.replicas → AllByRecursion (WantFits setup) wants → AreNext setup logs me p (items_for me (gives_for setup logs me to wants p) p)
+gives_next setup logs me to [] p alone peer all = tt
+gives_next setup logs me to (w ∷ wants) p alone peer all =
     let o : Option Piece = piece_for (holding setup logs me p (need_of w)) w.ask in
     let q : Standing = logged_all me (given o to w.right) p in
-    piece_next setup logs me to w.right o (gives_for setup logs me to wants q) p (given_fits setup (held_count setup logs me p.log) to w.right w.ask peer all.0.of all.0.much) (gives_next setup logs me to wants q peer all.1)
+    let low = want_low setup w alone all.0 in
+    piece_next setup logs me to w.right o (gives_for setup logs me to wants q) p (low_given setup logs me to p w.right w.ask peer all.0.of low.of low.much) (gives_next setup logs me to wants q alone peer all.1)
 
 -- ---- an item by its body
 
@@ -241,5 +212,5 @@ item_there [] k x lt is = absurd (omega (arith, lt))
 item_there (y ∷ log) zero x lt is = ap (λ (z : LogItem). Some z) (sym is)
 item_there (y ∷ log) (suc k) x lt is = item_there log k x (omega (arith, lt)) is
 
-pub item_fits : (setup : Setup) (r : Replica) (from index : ℕ) (x : LogItem) → IsReplica setup r.me r → item_at (known_to r) from index ≡ Some x → BodyFits setup.spec setup.replicas x.body
-item_fits setup r from index x own there = (each_at (ItemFits setup.spec setup.replicas) (log_at (known_to r) from) index x (each_in_log (ItemFits setup.spec setup.replicas) (known_to r) from own.store.fits) there).body
+pub item_fits : (setup : Setup) (r : Replica) (from index : ℕ) (x : LogItem) → IsReplica setup r.me r → item_at (known_to r) from index ≡ Some x → BodyFits setup x.body
+item_fits setup r from index x own there = (each_at (ItemFits setup) (log_at (known_to r) from) index x (each_log (ItemFits setup) (known_to r) from own.fits) there).body

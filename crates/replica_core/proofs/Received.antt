@@ -2,10 +2,10 @@
 use Rattle.std.proofs.Common.{◌≡◌, ◌≢◌, inl, inr, ℕ, zero, suc, ◌+◌, ◌-◌, ◌<◌, ◌≤◌, true, false, List, [], ◌∷◌, ◌++◌, length, map, set, take, drop, refl, sym, ap, subst, ◌∙◌, arith, length-set, length-append, length-drop, ltb-false}
 use Rattle.std.specs.Prelude.{slice_get, slice_index, slice_index_or, slice_set, Some, not, nat_lt, sum_by}
 use Rattle.std.specs.List.{AllByRecursion}
-use Rattle.std.proofs.lemmas.List.{get_or-set_same, get_or-set_other, map-set, length-map}
+use Rattle.std.proofs.lemmas.List.{get_or-set_same, get_or-set_other, map-set}
 use Rattle.std.proofs.lemmas.Bool.{cases_Bool, cases_eq}
 use Rattle.spec_model.specs.declared.plan.Setup.{Setup}
-use Rattle.spec_model.specs.declared.spec.Spec.{Spec}
+use Rattle.spec_model.specs.declared.instance.Inst.{Inst}
 use Rattle.spec_model.specs.declared.right.Right.{Right}
 use Rattle.spec_model.specs.declared.right.Right.TheVariants as right
 use Rattle.spec_model.specs.declared.right.Want.{Want}
@@ -15,20 +15,22 @@ use Rattle.spec_model.specs.declared.log.LogItem.{LogItem}
 use Rattle.run_model.specs.declared.message.Message.{Message}
 use Rattle.run_model.specs.Logs.{Logs, item_at, log_at, with_item}
 use Rattle.run_model.specs.Rights.{body_gains}
-use Rattle.run_model.specs.Worlds.{Standing, Sending, joined, logged_all}
+use Rattle.run_model.specs.Worlds.{Standing, Sending, joined, logged, logged_all}
 use Rattle.run_model.specs.Steps.{AreAdmitted, accept_of, accepts_of, cut_after, received}
-use Rattle.run_model.specs.Fitting.{AreInRow, ItemFits, MessageFits, WantFits}
-use Rattle.run_model.proofs.Lists.{each_filter, each_weaker, get_behind}
+use Rattle.run_model.specs.Fitting.{AreInRow, IsPlaced, ItemFits, MessageFits, WantFits}
+use Rattle.run_model.proofs.Lists.{each_append, each_filter, each_weaker, get_behind}
 use Rattle.run_model.proofs.Own.{applied_one, own_at, own_drop, own_front, unseen_own}
 use Rattle.run_model.proofs.Agreed.{Agrees, AllAgree, gains_all_agree}
 use Rattle.causal_store.specs.Stores.{IsStore, cut_in}
+use Rattle.causal_store.proofs.Stored.{each_log, each_set}
 use Rattle.causal_delivery.specs.Rows.{AreOfOne}
 use Rattle.replica_core.specs.Tables.{AreHeld}
 use Rattle.replica_core.specs.Replicas.{AreCovered, CanLearn, HasLearned, HasLoggedAll, KnowsOwn, IsKnown, IsReplica, known_to, own_log, standing_of, with_items}
 use Rattle.replica_core.specs.declared.replica.Replica.{Replica}
-use Rattle.replica_core.proofs.Logged.{count_at}
+use Rattle.replica_core.proofs.Alike.{HasGrown, IsEarly, row_early}
+use Rattle.replica_core.proofs.Logged.{count_at, cut_long}
 use Rattle.replica_core.proofs.Needed.{each_dropped, each_front, heard_replica}
-use Rattle.replica_core.proofs.Changes.{accept_few, longer_by}
+use Rattle.replica_core.proofs.Changes.{accept_few, accepts_each, items_for, logged_items, longer_by}
 
 -- ---- rows of items
 
@@ -82,38 +84,29 @@ cut_applied from c cut (x ∷ applied) row is lt =
     set_twice (z ∷ xs) zero x y = refl
     set_twice (z ∷ xs) (suc i) x y = ap (λ (l : List ℕ). z ∷ l) (set_twice xs i x y)
 
--- what holds of each item holds of each of one log
-pub each_in_log : (P : LogItem → Type 0) (logs : Logs) (i : ℕ) → AllByRecursion (AllByRecursion P) logs → AllByRecursion P (log_at logs i)
-each_in_log P [] i all = tt
-each_in_log P (log ∷ logs) zero all = all.0
-each_in_log P (log ∷ logs) (suc i) all = each_in_log P logs i all.1
-
 -- ---- what may be applied of a message
 
 -- the items of a message are of one log
-pub items_of_one : (spec : Spec) (replicas me : ℕ) (message : Message) (n : ℕ) → n ≡ replicas → MessageFits spec replicas me message → AreOfOne n message.items
-items_of_one spec replicas me message n same fits = subst (λ k. AreOfOne k message.items) (sym same) (record {
+pub items_of_one : (setup : Setup) (me : ℕ) (message : Message) (n : ℕ) → n ≡ setup.replicas → MessageFits setup me message → AreOfOne n message.items
+items_of_one setup me message n same fits = subst (λ k. AreOfOne k message.items) (sym same) (record {
   origin = message.from;
   first = fits.first;
   place = fits.sender;
   row = fits.row;
-  pasts = each_weaker (ItemFits spec replicas) (λ (i : LogItem). length i.deps ≡ replicas) (λ i h. h.past) message.items fits.items;
+  pasts = each_weaker (ItemFits setup) (λ (i : LogItem). length i.deps ≡ setup.replicas) (λ i h. h.placed.past) message.items fits.items;
 })
 
 -- of each log the cut of a store counts the items
-pub cut_counts : (spec : Spec) (replicas : ℕ) (r : Replica) (i : ℕ) → IsStore spec replicas r.store → slice_index (cut_in r.store) i ≡ length (log_at (known_to r) i)
-cut_counts spec replicas r i store = ap (λ (c : List ℕ). slice_index c i) store.counts ∙ count_at (known_to r) i
-
-pub cut_long : (spec : Spec) (replicas : ℕ) (r : Replica) → IsStore spec replicas r.store → length (cut_in r.store) ≡ replicas
-cut_long spec replicas r store = ap length store.counts ∙ length-map (known_to r) (λ (l : List LogItem). length l) ∙ store.whole
+pub cut_counts : (replicas : ℕ) (r : Replica) (i : ℕ) → IsStore replicas r.store → slice_index (cut_in r.store) i ≡ length (log_at (known_to r) i)
+cut_counts replicas r i store = ap (λ (c : List ℕ). slice_index c i) store.counts ∙ count_at (known_to r) i
 
 -- a part of a message's items that may be applied
 pub record IsPart (setup : Setup) (message : Message) (cut : List ℕ) (applied : List LogItem) : Type 0 where
   pub row : AreInRow message.from (slice_index cut message.from) applied
-  pub fits : AllByRecursion (ItemFits setup.spec setup.replicas) applied
+  pub fits : AllByRecursion (ItemFits setup) applied
   pub few : length applied ≤ 16
 
-pub part_of : (setup : Setup) (me : ℕ) (message : Message) (cut : List ℕ) (applied : List LogItem) → MessageFits setup.spec setup.replicas me message → AreAdmitted cut message.items applied → IsPart setup message cut applied
+pub part_of : (setup : Setup) (me : ℕ) (message : Message) (cut : List ℕ) (applied : List LogItem) → MessageFits setup me message → AreAdmitted cut message.items applied → IsPart setup message cut applied
 part_of setup me message cut applied fits admitted =
     let from : ℕ = message.from in
     let rest : List LogItem = admitted.rest in
@@ -122,18 +115,18 @@ part_of setup me message cut applied fits admitted =
     let row : AreInRow from (fits.first + n) (applied ++ rest) = subst (AreInRow from (fits.first + n)) (sym is) (own_drop from fits.first n message.items (fits.first + n) refl fits.row) in
     record {
       row = row_goes_on from (fits.first + n) cut message.items applied (own_front from (fits.first + n) applied rest row) admitted;
-      fits = (each_front (ItemFits setup.spec setup.replicas) applied rest (subst (AllByRecursion (ItemFits setup.spec setup.replicas)) (sym is) (each_dropped (ItemFits setup.spec setup.replicas) n message.items fits.items))).0;
+      fits = (each_front (ItemFits setup) applied rest (subst (AllByRecursion (ItemFits setup)) (sym is) (each_dropped (ItemFits setup) n message.items fits.items))).0;
       few = omega (arith, ap length is, length-append applied rest, length-drop n message.items, fits.few_items);
     }
 
 -- the replica may learn it
-pub can_learn : (setup : Setup) (me : ℕ) (r : Replica) (message : Message) (applied : List LogItem) → IsReplica setup me r → message.from < setup.replicas → IsPart setup message (cut_in r.store) applied → CanLearn setup.spec r applied
+pub can_learn : (setup : Setup) (me : ℕ) (r : Replica) (message : Message) (applied : List LogItem) → IsReplica setup me r → message.from < setup.replicas → IsPart setup message (cut_in r.store) applied → CanLearn r applied
 can_learn setup me r message applied own sender part = record {
   from = message.from;
-  store = subst (λ n. IsStore setup.spec n r.store) (sym own.store.whole) own.store;
+  store = subst (λ n. IsStore n r.store) (sym own.store.whole) own.store;
   place = omega (arith, sender, own.store.whole);
-  row = row_from message.from (slice_index (cut_in r.store) message.from) (length (log_at (known_to r) message.from)) applied (cut_counts setup.spec setup.replicas r message.from own.store) part.row;
-  fits = subst (λ n. AllByRecursion (ItemFits setup.spec n) applied) (sym own.store.whole) part.fits;
+  row = row_from message.from (slice_index (cut_in r.store) message.from) (length (log_at (known_to r) message.from)) applied (cut_counts setup.replicas r message.from own.store) part.row;
+  fits = subst (λ n. AllByRecursion (IsPlaced n) applied) (sym own.store.whole) (each_weaker (ItemFits setup) (IsPlaced setup.replicas) (λ i h. h.placed) applied part.fits);
 }
 
 -- ---- the replica that learned
@@ -190,8 +183,9 @@ pub record Learns (setup : Setup) (me from : ℕ) (applied : List LogItem) (old 
   pub own : IsReplica setup me old
   pub other : from ≢ me
   pub kept : new ≡ record old { store = new.store }
-  pub store : IsStore setup.spec setup.replicas new.store
+  pub store : IsStore setup.replicas new.store
   pub logs : known_to new ≡ with_items from applied (known_to old)
+  pub fits : AllByRecursion (ItemFits setup) applied
 
 pub learned_replica : (setup : Setup) (me from : ℕ) (applied : List LogItem) (old new : Replica) → Learns setup me from applied old new → IsReplica setup me new
 learned_replica setup me from applied old new h =
@@ -205,7 +199,10 @@ learned_replica setup me from applied old new h =
     record {
       me_is = ap (λ (r : Replica). r.me) h.kept ∙ h.own.me_is;
       within = h.own.within;
+      alone = h.own.alone;
       store = h.store;
+      fits = subst (AllByRecursion (AllByRecursion (ItemFits setup))) (sym h.logs)
+          (each_set (AllByRecursion (ItemFits setup)) known from (log_at known from ++ applied) h.own.fits (each_append (ItemFits setup) (log_at known from) applied (each_log (ItemFits setup) known from h.own.fits) h.fits));
       own = subst (AreInRow me 0) (sym same_log) h.own.own;
       known = subst (AllByRecursion (λ (i : LogItem). IsKnown (known_to new) me i.body)) (sym same_log) (subst (λ (l : Logs). AllByRecursion (λ (i : LogItem). IsKnown l me i.body) own) (sym h.logs)
           (each_weaker (λ (i : LogItem). IsKnown known me i.body) (λ (i : LogItem). IsKnown (with_items from applied known) me i.body) (λ i k. known_stays me from known applied i.body k) own h.own.known));
@@ -215,7 +212,7 @@ learned_replica setup me from applied old new h =
         held = λ i cell is. let was = h.own.holds.held i cell is in let g = gains (right.Low cell) in let read : slice_index new.lows i ≡ slice_index old.lows i = ap (λ (xs : List ℕ). slice_index xs i) lows in omega (arith, was, g, read);
         small = λ i. let up = h.own.holds.small i in let read : slice_index new.lows i ≡ slice_index old.lows i = ap (λ (xs : List ℕ). slice_index xs i) lows in omega (arith, up, read);
       });
-      wants = subst (λ (r : Replica). AllByRecursion (WantFits setup.spec) r.wants) (sym h.kept) h.own.wants;
+      wants = subst (λ (r : Replica). AllByRecursion (WantFits setup) r.wants) (sym h.kept) h.own.wants;
       few_wants = subst (λ (r : Replica). length r.wants ≤ 8) (sym h.kept) h.own.few_wants;
       told = subst (λ (r : Replica). length r.told ≡ setup.replicas) (sym h.kept) h.own.told;
       told_each = subst (λ (r : Replica). AllByRecursion (λ (c : List ℕ). length c ≡ setup.replicas) r.told) (sym h.kept) h.own.told_each;
@@ -228,8 +225,8 @@ learned_cut setup message me applied old new h sender part =
     let cut : List ℕ = cut_in old.store in
     let from : ℕ = message.from in
     let c : ℕ = slice_index cut from in
-    let long : length cut ≡ setup.replicas = cut_long setup.spec setup.replicas old h.own.store in
-    let more : length (log_at known from ++ applied) ≡ c + length applied = omega (arith, append_long (log_at known from) applied, cut_counts setup.spec setup.replicas old from h.own.store) in
+    let long : length cut ≡ setup.replicas = cut_long setup.replicas old h.own.store in
+    let more : length (log_at known from ++ applied) ≡ c + length applied = omega (arith, append_long (log_at known from) applied, cut_counts setup.replicas old from h.own.store) in
     h.store.counts ∙ ap (map (λ (l : List LogItem). length l)) h.logs ∙ map-set (λ (l : List LogItem). length l) known from (log_at known from ++ applied)
     ∙ ap (λ (k : List ℕ). slice_set k from (length (log_at known from ++ applied))) (sym h.own.store.counts) ∙ ap (slice_set cut from) more
     ∙ sym (cut_applied from c cut applied part.row refl (omega (arith, sender, long)))
@@ -257,11 +254,6 @@ joined_whole [] ys n a b = a
 joined_whole (x ∷ xs) [] n a b = absurd (omega (arith, a, b))
 joined_whole (x ∷ xs) (y ∷ ys) n a b = let rest = joined_whole xs ys (n - 1) (omega (arith, a)) (omega (arith, b)) in omega (arith, rest, a)
 
-each_set : {X : Type 0} (P : X → Type 0) (xs : List X) (i : ℕ) (x : X) → AllByRecursion P xs → P x → AllByRecursion P (set xs i x)
-each_set P [] i x all h = tt
-each_set P (y ∷ xs) zero x all h = (h, all.1)
-each_set P (y ∷ xs) (suc i) x all h = (all.0, each_set P xs i x all.1 h)
-
 each_of_all : (P : List ℕ → Type 0) (xs : List (List ℕ)) (i : ℕ) → i < length xs → AllByRecursion P xs → P (slice_index_or xs i [])
 each_of_all P [] i lt all = absurd (omega (arith, lt))
 each_of_all P (x ∷ xs) zero lt all = all.0
@@ -280,7 +272,7 @@ heard_so message old new from cut from_is cut_is heard =
 -- a message was heard, and these of its items are applied
 pub record Admits (setup : Setup) (me : ℕ) (message : Message) (old mid : Replica) (items : List LogItem) : Type 0 where
   pub own : IsReplica setup me old
-  pub fits : MessageFits setup.spec setup.replicas me message
+  pub fits : MessageFits setup me message
   pub heard : mid ≡ record old { told = told_of message old }
   pub admitted : AreAdmitted (cut_in old.store) message.items items
 
@@ -303,10 +295,10 @@ mid_part setup me message old mid items h =
     let same : cut_in mid.store ≡ cut_in old.store = ap (λ (r : Replica). cut_in r.store) h.heard in
     subst (λ (c : List ℕ). IsPart setup message c items) (sym same) (part_of setup me message (cut_in old.store) items h.fits h.admitted)
 
-pub mid_can : (setup : Setup) (me : ℕ) (message : Message) (old mid : Replica) (items : List LogItem) → Admits setup me message old mid items → CanLearn setup.spec mid items
+pub mid_can : (setup : Setup) (me : ℕ) (message : Message) (old mid : Replica) (items : List LogItem) → Admits setup me message old mid items → CanLearn mid items
 mid_can setup me message old mid items h = can_learn setup me mid message items (mid_own setup me message old mid items h) h.fits.sender (mid_part setup me message old mid items h)
 
-pub mid_learns : (setup : Setup) (me : ℕ) (message : Message) (old mid new : Replica) (items : List LogItem) → Admits setup me message old mid items → HasLearned setup.spec items mid new → Learns setup me message.from items mid new
+pub mid_learns : (setup : Setup) (me : ℕ) (message : Message) (old mid new : Replica) (items : List LogItem) → Admits setup me message old mid items → HasLearned items mid new → Learns setup me message.from items mid new
 mid_learns setup me message old mid new items h learned =
     let own = mid_own setup me message old mid items h in
     let part = mid_part setup me message old mid items h in
@@ -314,8 +306,9 @@ mid_learns setup me message old mid new items h learned =
       own = own;
       other = h.fits.other;
       kept = learned.kept;
-      store = subst (λ n. IsStore setup.spec n new.store) own.store.whole learned.store;
-      logs = learned.logs message.from (row_from message.from (slice_index (cut_in mid.store) message.from) (length (log_at (known_to mid) message.from)) items (cut_counts setup.spec setup.replicas mid message.from own.store) part.row) (omega (arith, h.fits.sender, own.store.whole));
+      store = subst (λ n. IsStore n new.store) own.store.whole learned.store;
+      fits = part.fits;
+      logs = learned.logs message.from (row_from message.from (slice_index (cut_in mid.store) message.from) (length (log_at (known_to mid) message.from)) items (cut_counts setup.replicas mid message.from own.store) part.row) (omega (arith, h.fits.sender, own.store.whole));
     }
 
 -- at most one thing is accepted of each item
@@ -352,8 +345,46 @@ pub record HasReceived (setup : Setup) (message : Message) (old : Replica) (appl
   pub grown : length (own_log new) ≡ length (own_log old) + length (accepts_of old.me applied)
   pub stands : (stamp : ℕ) (sendings : List Sending) → standing_of stamp sendings new ≡ received old.me message applied (standing_of stamp sendings old)
   pub knows : KnowsOwn (with_items message.from applied (known_to old)) new
+  pub longer : HasGrown (with_items message.from applied (known_to old)) new
 
-pub has_received : (setup : Setup) (message : Message) (old mid learned new : Replica) (items : List LogItem) → Admits setup old.me message old mid items → HasLearned setup.spec items mid learned
+-- no act is among the items that accept
+accepts_early : (me n who : ℕ) (items : List LogItem) (p : Standing) → AllByRecursion (IsEarly me n) (items_for who (accepts_of me items) p)
+accepts_early me n who items p = made (accepts_of me items) p (accepts_each IsNoAct me items (none items))
+  where
+    IsNoAct : Body → Type 0
+    IsNoAct b = (inst : Inst) → b ≡ body.Act inst → ⊥
+
+    none : (xs : List LogItem) → AllByRecursion (λ x. IsNoAct (body.Accept x.origin x.index)) xs
+    none [] = tt
+    none (x ∷ xs) = ((λ inst wrong. cc), none xs)
+
+    made : (bodies : List Body) (q : Standing) → AllByRecursion IsNoAct bodies → AllByRecursion (IsEarly me n) (items_for who bodies q)
+    made [] q all = tt
+    made (b ∷ bodies) q all = ((λ inst act. absurd (all.0 inst act)), made bodies (logged who b q) all.1)
+
+-- its own log has grown by Accepts
+received_grown : (setup : Setup) (message : Message) (old mid learned new : Replica) (items : List LogItem) → Admits setup old.me message old mid items → Learns setup old.me message.from items mid learned → HasLoggedAll setup (accepts_of old.me items) learned new
+    → HasGrown (with_items message.from items (known_to old)) new
+received_grown setup message old mid learned new items h it logged =
+    let me : ℕ = old.me in
+    let known : Logs = with_items message.from items (known_to old) in
+    let bodies : List Body = accepts_of me items in
+    let p : Standing = standing_of 0 [] learned in
+    let mine : new.me ≡ me = logged.own.me_is ∙ ap (λ (r : Replica). r.me) it.kept ∙ ap (λ (r : Replica). r.me) h.heard in
+    let same : log_at known me ≡ own_log old = get_or-set_other (known_to old) message.from me (log_at (known_to old) message.from ++ items) [] (λ is. h.fits.other (sym is)) in
+    let log : own_log learned ≡ own_log old = ap (λ (q : Standing). q.log) (learned_stands setup message old mid learned items 0 [] h it) in
+    let made : List LogItem = items_for learned.me bodies p in
+    let long : own_log new ≡ own_log old ++ made = ap (λ (q : Standing). q.log) (logged.stands 0 []) ∙ logged_items learned.me bodies p ∙ ap (λ (l : List LogItem). l ++ made) log in
+    let n : ℕ = length (own_log old) in
+    let early : AllByRecursion (IsEarly me n) (own_log old ++ made) = each_append (IsEarly me n) (own_log old) made (row_early me 0 n (own_log old) h.own.own (omega arith)) (accepts_early me n learned.me items p) in
+    record {
+      more = made;
+      log = long ∙ ap (λ (l : List LogItem). l ++ made) (sym (ap (log_at known) mine ∙ same));
+      early = subst (λ (l : List LogItem). AllByRecursion (IsEarly new.me (length (log_at known new.me))) l) (sym long)
+          (subst (λ i. AllByRecursion (IsEarly i (length (log_at known i))) (own_log old ++ made)) (sym mine) (subst (λ (l : List LogItem). AllByRecursion (IsEarly me (length l)) (own_log old ++ made)) (sym same) early));
+    }
+
+pub has_received : (setup : Setup) (message : Message) (old mid learned new : Replica) (items : List LogItem) → Admits setup old.me message old mid items → HasLearned items mid learned
     → HasLoggedAll setup (accepts_of old.me items) learned new → HasReceived setup message old items new
 has_received setup message old mid learned new items h learns logged =
     let it = mid_learns setup old.me message old mid learned items h learns in
@@ -370,4 +401,5 @@ has_received setup message old mid learned new items h learns logged =
       grown = let longer = longer_by setup (accepts_of old.me items) learned new logged in let same = ap (λ (p : Standing). length p.log) (stood 0 []) in omega (arith, longer, same);
       stands = λ stamp sendings. logged.stands stamp sendings ∙ ap (λ i. logged_all i (accepts_of old.me items) (standing_of stamp sendings learned)) mine ∙ ap (logged_all old.me (accepts_of old.me items)) (stood stamp sendings);
       knows = logged.knows ∙ ap (λ (l : Logs). slice_set l new.me (own_log new)) (it.logs ∙ ap (with_items message.from items) heard_known);
+      longer = received_grown setup message old mid learned new items h it logged;
     }

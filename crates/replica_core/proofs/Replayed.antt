@@ -26,12 +26,12 @@ use Rattle.replica_core.specs.Decisions.{AreNext, Decides, IsDecided, StaysSame}
 use Rattle.replica_core.specs.Recovered.{AreDecided, HasReplayed}
 use Rattle.causal_store.specs.Agreeing.{with_all}
 use Rattle.replica_core.specs.Replicas.{CanLearn, HasLearned, HasLoggedAll, IsKnown, IsReplica, known_to, own_log, standing_of, with_items}
-use Rattle.replica_core.proofs.Changes.{set_again}
+use Rattle.replica_core.proofs.Changes.{items_for, items_long, logged_items, set_again}
 use Rattle.replica_core.proofs.Committed.{act_next, back_of, before_of, decided_parts, front_of, start_of, stays_same}
 use Rattle.replica_core.proofs.Lists.{drop_at_item, take_more}
-use Rattle.replica_core.proofs.Next.{accepts_free, free_next, gives_few, gives_for, gives_next, items_for, items_long, logged_items}
-use Rattle.replica_core.proofs.Silent.{heeded_or_nothing}
+use Rattle.replica_core.proofs.Next.{accepts_free, free_next, gives_few, gives_for, gives_next}
 use Rattle.replica_core.proofs.Received.{Learns, accepts_few, can_learn, cut_counts, items_placed, learned_cut, learned_replica, part_of}
+use Rattle.replica_core.proofs.Silent.{heeded_or_nothing}
 
 -- ---- logs with more items
 
@@ -105,8 +105,8 @@ pub record Replays (setup : Setup) (r : Replica) (items front own : List LogItem
   pub mine : AllByRecursion (λ i. i.origin ≡ r.me) own
   pub few : length own ≤ 24
   pub few_learned : length front ≤ 16
-  pub can : CanLearn setup.spec r front
-  pub applied : (learned : Replica) → HasLearned setup.spec front r learned → Applied setup r learned front own
+  pub can : CanLearn r front
+  pub applied : (learned : Replica) → HasLearned front r learned → Applied setup r learned front own
 
 act_replays : (setup : Setup) (r : Replica) (inst : Inst) (batch : Batch) → IsReplica setup r.me r → InstFits setup.spec inst → Decides setup inst r (decision.Act batch) → Replays setup r batch.items [] batch.items
 act_replays setup r inst batch own fits decides =
@@ -118,7 +118,7 @@ act_replays setup r inst batch own fits decides =
       mine = subst (AllByRecursion (λ (i : LogItem). i.origin ≡ r.me)) (sym decides.1) (refl, tt);
       few = omega (arith, ap length decides.1);
       few_learned = omega arith;
-      can = record { from = r.me; store = subst (λ n. IsStore setup.spec n r.store) (sym own.store.whole) own.store; place = place; row = tt; fits = tt };
+      can = record { from = r.me; store = subst (λ n. IsStore n r.store) (sym own.store.whole) own.store; place = place; row = tt; fits = tt };
       applied = λ learned h.
           let same : known_to learned ≡ known = h.logs r.me tt place ∙ sym (with_all_of r.me [] known tt place) in
           let cut : cut_in learned.store ≡ cut_in r.store = h.store.counts ∙ ap (map (λ (l : List LogItem). length l)) same ∙ sym own.store.counts in
@@ -149,7 +149,7 @@ own_of setup message r front =
     items_for r.me (accepts_of r.me front) (start_of message r front)
     ++ items_for r.me (gives_for setup (with_items message.from front (known_to r)) r.me message.from message.wants (before_of setup message r front)) (before_of setup message r front)
 
-take_replays : (setup : Setup) (message : Message) (r : Replica) (items front : List LogItem) → IsReplica setup r.me r → MessageFits setup.spec setup.replicas r.me message → AreAdmitted (cut_in r.store) message.items front → items ≡ front ++ own_of setup message r front
+take_replays : (setup : Setup) (message : Message) (r : Replica) (items front : List LogItem) → IsReplica setup r.me r → MessageFits setup r.me message → AreAdmitted (cut_in r.store) message.items front → items ≡ front ++ own_of setup message r front
     → Replays setup r items front (own_of setup message r front)
 take_replays setup message r items front own fits admitted is =
     let me : ℕ = r.me in
@@ -162,12 +162,12 @@ take_replays setup message r items front own fits admitted is =
     let bodies : List Body = accepts_of me front in
     let gives : List Body = gives_for setup logs me from message.wants before in
     let place : from < length known = omega (arith, fits.sender, own.store.whole) in
-    let counted : slice_index (cut_in r.store) from ≡ length (log_at known from) = cut_counts setup.spec setup.replicas r from own.store in
+    let counted : slice_index (cut_in r.store) from ≡ length (log_at known from) = cut_counts setup.replicas r from own.store in
     let row : AreInRow from (length (log_at known from)) front = subst (λ n. AreInRow from n front) counted part.row in
     let origin = row_origin from (length (log_at known from)) front row in
     let placed = items_placed from (length (log_at known from)) known front row refl place in
     let first : AreNext setup logs me start (items_for me bodies start) = free_next setup logs me bodies start (accepts_free setup logs me front part.fits (each_known me from (length (log_at known from)) logs front fits.other row placed)) in
-    let then' : AreNext setup logs me (logged_all me bodies start) (items_for me gives before) = next_like setup logs me before (logged_all me bodies start) (items_for me gives before) refl refl (gives_next setup logs me from message.wants before fits.sender fits.wants) in
+    let then' : AreNext setup logs me (logged_all me bodies start) (items_for me gives before) = next_like setup logs me before (logged_all me bodies start) (items_for me gives before) refl refl (gives_next setup logs me from message.wants before own.alone fits.sender fits.wants) in
     let all : AreNext setup logs me start (own_of setup message r front) = next_both setup logs me bodies start (items_for me gives before) first then' in
     let short = accepts_few me front in
     let few = gives_few setup logs me from message.wants before in
@@ -179,7 +179,7 @@ take_replays setup message r items front own fits admitted is =
       few_learned = part.few;
       can = can_learn setup me r message front own fits.sender part;
       applied = λ learned h.
-          let learns : Learns setup me from front r learned = record { own = own; other = fits.other; kept = h.kept; store = subst (λ n. IsStore setup.spec n learned.store) own.store.whole h.store; logs = h.logs from row place } in
+          let learns : Learns setup me from front r learned = record { own = own; other = fits.other; kept = h.kept; store = subst (λ n. IsStore n learned.store) own.store.whole h.store; logs = h.logs from row place; fits = part.fits } in
           let mine : learned.me ≡ me = ap (λ (s : Replica). s.me) h.kept in
           let log : own_log learned ≡ own_log r =
           ap (log_at (known_to learned)) mine ∙ ap (λ (l : Logs). log_at l me) learns.logs ∙ get_or-set_other known from me (log_at known from ++ front) [] (λ same. fits.other (sym same)) in
@@ -204,7 +204,7 @@ nothing_replays setup r items own none =
       mine = tt;
       few = omega arith;
       few_learned = omega arith;
-      can = record { from = r.me; store = subst (λ n. IsStore setup.spec n r.store) (sym own.store.whole) own.store; place = place; row = tt; fits = tt };
+      can = record { from = r.me; store = subst (λ n. IsStore n r.store) (sym own.store.whole) own.store; place = place; row = tt; fits = tt };
       applied = λ learned h.
           let same : known_to learned ≡ known = h.logs r.me tt place ∙ sym (with_all_of r.me [] known tt place) in
           let cut : cut_in learned.store ≡ cut_in r.store = h.store.counts ∙ ap (map (λ (l : List LogItem). length l)) same ∙ sym own.store.counts in
@@ -268,7 +268,7 @@ pub logged_keeps : (me : ℕ) (bodies : List Body) (p : Standing) → ((logged_a
 logged_keeps me [] p = (refl, refl, refl)
 logged_keeps me (b ∷ bodies) p = logged_keeps me bodies (logged me b p)
 
-pub has_replayed : (setup : Setup) (items front own : List LogItem) (old learned new : Replica) → Replays setup old items front own → HasLearned setup.spec front old learned → HasLoggedAll setup (map (λ (i : LogItem). i.body) own) learned new → HasReplayed setup items old new
+pub has_replayed : (setup : Setup) (items front own : List LogItem) (old learned new : Replica) → Replays setup old items front own → HasLearned front old learned → HasLoggedAll setup (map (λ (i : LogItem). i.body) own) learned new → HasReplayed setup items old new
 has_replayed setup items front own old learned new h learns logged =
     let applied = h.applied learned learns in
     let me : ℕ = learned.me in

@@ -4,6 +4,8 @@ use Rattle.std.specs.Prelude.{slice_index, slice_index_or}
 use Rattle.std.specs.List.{AllByRecursion}
 use Rattle.std.proofs.lemmas.List.{length-map}
 use Rattle.spec_model.specs.declared.plan.Setup.{Setup}
+use Rattle.spec_model.specs.declared.right.Right.{Right}
+use Rattle.spec_model.specs.declared.right.Held.{Held}
 use Rattle.spec_model.specs.declared.right.Held.TheVariants as held
 use Rattle.spec_model.specs.declared.right.Want.{Want}
 use Rattle.spec_model.specs.declared.right.WantAsk.{WantAsk}
@@ -12,39 +14,42 @@ use Rattle.spec_model.specs.declared.log.LogItem.{LogItem}
 use Rattle.run_model.specs.declared.message.Message.{Message}
 use Rattle.run_model.specs.Logs.{Logs}
 use Rattle.run_model.specs.Steps.{message_of}
-use Rattle.run_model.specs.Wants.{ask_less, want_less}
+use Rattle.run_model.specs.Wants.{ask_less, need_of, want_less}
 use Rattle.run_model.specs.Worlds.{Standing, holding}
 use Rattle.run_model.specs.Fitting.{AreInRow, AskFits, ItemFits, MessageFits, WantFits}
 use Rattle.run_model.proofs.Lists.{each_take}
 use Rattle.run_model.proofs.Own.{own_drop}
 use Rattle.causal_store.specs.Stores.{cut_in}
+use Rattle.causal_store.proofs.Stored.{each_log}
 use Rattle.replica_core.specs.Replicas.{IsReplica, holds_of, known_to, own_log, standing_of}
 use Rattle.replica_core.specs.declared.replica.Replica.{Replica}
 use Rattle.replica_core.proofs.Needed.{each_dropped}
-use Rattle.replica_core.proofs.Received.{each_in_log, row_taken}
+use Rattle.replica_core.proofs.Received.{row_taken}
 
 -- what is still asked for is no more than was asked for
-ask_less_fits : (have : ℕ) (ask : WantAsk) → AskFits ask → AskFits (ask_less (held.Count have) ask)
-ask_less_fits have (asked.Count n) fits = omega (arith, fits)
-ask_less_fits have (asked.Level l) fits = fits
-ask_less_fits have (asked.Points span) fits = fits
+ask_less_fits : (setup : Setup) (r : Right) (have : Held) (ask : WantAsk) → AskFits setup r ask → AskFits setup r (ask_less have ask)
+ask_less_fits setup r (held.Count n) (asked.Count m) fits = (fits.0, omega (arith, fits.1))
+ask_less_fits setup r (held.Count n) (asked.Level l) fits = fits
+ask_less_fits setup r (held.Count n) (asked.Points span) fits = fits
+ask_less_fits setup r (held.Shares n m) ask fits = fits
+ask_less_fits setup r (held.Points missing run) ask fits = fits
 
 -- the wants less what is held
-wants_less_fit : (setup : Setup) (logs : Logs) (me : ℕ) (p : Standing) (wants : List Want) → AllByRecursion (WantFits setup.spec) wants → AllByRecursion (WantFits setup.spec) (map (want_less (holding setup logs me p)) wants)
+wants_less_fit : (setup : Setup) (logs : Logs) (me : ℕ) (p : Standing) (wants : List Want) → AllByRecursion (WantFits setup) wants → AllByRecursion (WantFits setup) (map (want_less (holding setup logs me p)) wants)
 wants_less_fit setup logs me p [] all = tt
-wants_less_fit setup logs me p (want ∷ wants) all = (record { of = all.0.of; much = ask_less_fits _ want.ask all.0.much }, wants_less_fit setup logs me p wants all.1)
+wants_less_fit setup logs me p (want ∷ wants) all = (record { of = all.0.of; much = ask_less_fits setup want.right (holding setup logs me p (need_of want)) want.ask all.0.much }, wants_less_fit setup logs me p wants all.1)
 
 -- a replica whose log and wants fit
 pub record CanSend (setup : Setup) (me : ℕ) (p : Standing) : Type 0 where
   pub place : me < setup.replicas
   pub wide : length p.cut ≡ setup.replicas
-  pub log : AllByRecursion (ItemFits setup.spec setup.replicas) p.log
+  pub log : AllByRecursion (ItemFits setup) p.log
   pub own : AreInRow me 0 p.log
-  pub wants : AllByRecursion (WantFits setup.spec) p.wants
+  pub wants : AllByRecursion (WantFits setup) p.wants
   pub few : length p.wants ≤ 8
 
 -- its message to another fits that one
-pub message_fits : (setup : Setup) (logs : Logs) (me to number stamp : ℕ) (p : Standing) → CanSend setup me p → to ≢ me → MessageFits setup.spec setup.replicas to (message_of setup logs me to number stamp p)
+pub message_fits : (setup : Setup) (logs : Logs) (me to number stamp : ℕ) (p : Standing) → CanSend setup me p → to ≢ me → MessageFits setup to (message_of setup logs me to number stamp p)
 message_fits setup logs me to number stamp p h other =
     let seen : ℕ = slice_index (slice_index_or p.told to []) me in
     let rest : List LogItem = drop seen p.log in
@@ -53,7 +58,7 @@ message_fits setup logs me to number stamp p h other =
       other = λ same. other (sym same);
       receiver = refl;
       cut = h.wide;
-      items = each_take (ItemFits setup.spec setup.replicas) 16 rest (each_dropped (ItemFits setup.spec setup.replicas) seen p.log h.log);
+      items = each_take (ItemFits setup) 16 rest (each_dropped (ItemFits setup) seen p.log h.log);
       first = seen;
       row = row_taken me seen 16 rest (own_drop me 0 seen p.log seen (omega arith) h.own);
       few_items = omega (arith, length-take 16 rest);
@@ -64,16 +69,16 @@ message_fits setup logs me to number stamp p h other =
 -- so does that of a replica of the code
 pub sent_fits : (setup : Setup) (r : Replica) (to number stamp : ℕ) (cut : List ℕ) (items : List LogItem) (wants : List Want) → IsReplica setup r.me r → to ≢ r.me → cut ≡ cut_in r.store
     → items ≡ take 16 (drop (slice_index (slice_index_or r.told to []) r.me) (own_log r)) → wants ≡ map (want_less (holds_of setup r)) r.wants
-    → MessageFits setup.spec setup.replicas to (record { from = r.me; to = to; number = number; stamp = stamp; cut = cut; items = items; wants = wants })
+    → MessageFits setup to (record { from = r.me; to = to; number = number; stamp = stamp; cut = cut; items = items; wants = wants })
 sent_fits setup r to number stamp cut items wants own other cut_is items_are wants_are =
     let p : Standing = standing_of 0 [] r in
     let message : List ℕ → List LogItem → List Want → Message = λ cut items wants. record { from = r.me; to = to; number = number; stamp = stamp; cut = cut; items = items; wants = wants } in
     let fits = message_fits setup (known_to r) r.me to number stamp p (record {
       place = own.within;
       wide = ap length own.store.counts ∙ length-map (known_to r) (λ (l : List LogItem). length l) ∙ own.store.whole;
-      log = each_in_log (ItemFits setup.spec setup.replicas) (known_to r) r.me own.store.fits;
+      log = each_log (ItemFits setup) (known_to r) r.me own.fits;
       own = own.own;
       wants = own.wants;
       few = own.few_wants;
     }) other in
-    subst (MessageFits setup.spec setup.replicas to) (sym (ap (λ c. message c items wants) cut_is ∙ ap (λ i. message p.cut i wants) items_are ∙ ap (message p.cut (take 16 (drop (slice_index (slice_index_or r.told to []) r.me) (own_log r)))) wants_are)) fits
+    subst (MessageFits setup to) (sym (ap (λ c. message c items wants) cut_is ∙ ap (λ i. message p.cut i wants) items_are ∙ ap (message p.cut (take 16 (drop (slice_index (slice_index_or r.told to []) r.me) (own_log r)))) wants_are)) fits

@@ -8,9 +8,9 @@ use Rattle.spec_model.specs.Breaks.{broken_by}
 use Rattle.spec_model.specs.Fits.{IsWellFormed}
 use Rattle.spec_model.specs.Needs.{needs}
 use Rattle.run_model.specs.declared.step.StepEntry.{StepEntry}
-use Rattle.run_model.specs.Fitting.{MessageFits}
+use Rattle.run_model.specs.Fitting.{AsksFit, DoFits, MessageFits}
 use Rattle.run_model.specs.Logs.{Logs, log_at}
-use Rattle.run_model.specs.Rights.{first_lacking}
+use Rattle.run_model.specs.Levels.{first_lacking}
 use Rattle.run_model.specs.Runs.{Runs, WorldSteps}
 use Rattle.run_model.specs.Steps.{Hears, cut_after, links_of}
 use Rattle.run_model.specs.Worlds.{Sending, Standing, World, first_standing, first_world, holding, logs_of, sent_to, truths_seen}
@@ -19,8 +19,8 @@ use Rattle.run_model.proofs.Kept.{IsKept, IsWell, all_first, heard_from, kept_fi
 use Rattle.run_model.proofs.Lists.{each_at, each_filter, get_set_other, get_set_same}
 use Rattle.run_model.proofs.Stepped.{step_extends, step_kept, step_later}
 use Rattle.run_model.proofs.WorldLogs.{links_there, logs_there}
-use Rattle.replica_core.specs.Laws.{AsksFit, DoFits, MessagesFit}
-use Rattle.replica_core.specs.Tables.{HasNoUpper}
+use Rattle.replica_core.specs.Laws.{MessagesFit}
+use Rattle.replica_core.specs.Tables.{HasLowsAlone}
 use Rattle.replica_core.proofs.Fitted.{LogFits, SendingFits, StandsFit, requested_fits, sends_fit, takes_fit}
 
 -- what each replica of the world logged, wants and sent fits
@@ -41,7 +41,7 @@ abbrev AreShort : World → Type 0
 AreShort w = (j : ℕ) → length (log_at (logs_of w) j) ≤ 4194304
 
 -- after a step what the replica logged, wants and sent fits
-after_fits : (setup : Setup) (w : World) (e : StepEntry) (new : World) → IsWellFormed setup.spec → HasNoUpper setup.spec → IsKept setup.replicas w → AreFit setup w → DoFits setup.spec e.ask → AreShort new → (s : WorldSteps setup w e new) → StandsFit setup s.after
+after_fits : (setup : Setup) (w : World) (e : StepEntry) (new : World) → IsWellFormed setup.spec → HasLowsAlone setup → IsKept setup.replicas w → AreFit setup w → DoFits setup.spec e.ask → AreShort new → (s : WorldSteps setup w e new) → StandsFit setup s.after
 after_fits setup w e new well lower kept fit asked short s =
     let me : ℕ = e.replica in
     let old : Standing = s.before in
@@ -54,15 +54,15 @@ after_fits setup w e new well lower kept fit asked short s =
     let at : slice_get new me ≡ Some s.after = ap (λ (v : World). slice_get v me) s.becomes ∙ get_set_same w me s.after (slice_get_within w me old s.was) in
     let room : length mid.log < 2 ^ 32 = omega (arith, short me, ap length (logs_there new me s.after at), ap (λ (p : Standing). length p.log) s.steps.becomes) in
     let answer = answers_are setup logs me e.stamp old e.outcome mid (λ heard items ask. Hears (links_of w) me ask heard → DoFits setup.spec ask → length (cut_after old.cut items) ≡ length old.cut → StandsFit setup mid)
-    (λ inst is hears does long. requested_fits setup logs me inst (broken_by setup.spec (truths_seen setup logs old) inst) (first_lacking (holding setup logs me old) (needs setup inst)) old e.outcome mid well lower does own h room refl is)
+    (λ inst is hears does long. requested_fits setup logs me inst (broken_by setup.spec (truths_seen setup logs old) inst) (first_lacking setup.replicas (holding setup logs me old) (needs setup (truths_seen setup logs old) inst)) old e.outcome mid well lower does own h room refl is)
     (λ to number is hears does long. sends_fit setup logs me to number e.stamp old e.outcome mid own stands.stands.own h is)
     (λ sent message items from number is takes hears does long.
-    takes_fit setup logs me sent.to message items old e.outcome mid own long ((heard_fits setup w from number me sent kept fit (hears.1 ∙ sym hears.2)).0 message is) h room takes)
+    takes_fit setup logs me sent.to message items old e.outcome mid lower own long ((heard_fits setup w from number me sent kept fit (hears.1 ∙ sym hears.2)).0 message is) h room takes)
     s.heard s.applied e.ask s.steps.answers s.hears asked (step_later setup setup.replicas w e new kept s).0.long in
     subst (StandsFit setup) (sym s.steps.becomes) (record { log = answer.log; wants = answer.wants; few = answer.few; sent = answer.sent })
 
 -- and so of all replicas
-step_fits : (setup : Setup) (w : World) (e : StepEntry) (new : World) → IsWellFormed setup.spec → HasNoUpper setup.spec → IsKept setup.replicas w → AreFit setup w → DoFits setup.spec e.ask → AreShort new → WorldSteps setup w e new → AreFit setup new
+step_fits : (setup : Setup) (w : World) (e : StepEntry) (new : World) → IsWellFormed setup.spec → HasLowsAlone setup → IsKept setup.replicas w → AreFit setup w → DoFits setup.spec e.ask → AreShort new → WorldSteps setup w e new → AreFit setup new
 step_fits setup w e new well lower kept fit asked short s j p is =
     let me : ℕ = e.replica in
     let there : slice_get (slice_set w me s.after) j ≡ Some p = ap (λ (v : World). slice_get v j) (sym s.becomes) ∙ is in
@@ -84,7 +84,7 @@ runs_longer setup w (e ∷ es) new kept runs j =
     omega (arith, rest, ap length (one.is j), length-append (log_at (logs_of w) j) (one.more j))
 
 -- so all fits at the end if it does at the start
-runs_fit : (setup : Setup) (w : World) (es : List StepEntry) (new : World) → IsWellFormed setup.spec → HasNoUpper setup.spec → AsksFit setup.spec es → AreShort new → IsKept setup.replicas w → AreFit setup w → Runs setup w es new → IsKept setup.replicas new × AreFit setup new
+runs_fit : (setup : Setup) (w : World) (es : List StepEntry) (new : World) → IsWellFormed setup.spec → HasLowsAlone setup → AsksFit setup.spec es → AreShort new → IsKept setup.replicas w → AreFit setup w → Runs setup w es new → IsKept setup.replicas new × AreFit setup new
 runs_fit setup w [] new well lower asked short kept fit runs = subst (λ (v : World). IsKept setup.replicas v × AreFit setup v) (sym runs) (kept, fit)
 runs_fit setup w (e ∷ es) new well lower asked short kept fit runs =
     let middle : World = runs.0 in
@@ -101,4 +101,4 @@ pub messages_fit : MessagesFit
 messages_fit setup entries world me from number sent message well lower asked runs short hears is =
     let all = runs_fit setup (first_world setup.replicas) entries world well lower asked short (kept_first setup.replicas) (first_fits setup) runs in
     let f = heard_fits setup world from number me sent all.0 all.1 (hears.1 ∙ sym hears.2) in
-    subst (λ i. MessageFits setup.spec setup.replicas i message) f.1 (f.0 message is)
+    subst (λ i. MessageFits setup i message) f.1 (f.0 message is)

@@ -18,6 +18,7 @@ use Rattle.replica_core.specs.Heeded.{Heeds, IsAddressed, silent}
 use Rattle.replica_core.specs.Replicas.{HasLoggedAll, HasTaken, IsReplica, holds_of, known_to, own_log, standing_of, with_items}
 use Rattle.replica_core.specs.declared.decision.Taken.{Taken}
 use Rattle.replica_core.specs.declared.replica.Replica.{Replica}
+use Rattle.replica_core.proofs.Alike.{HasGrown, row_early}
 use Rattle.replica_core.proofs.Finished.{Drops, dropped_own, has_taken}
 use Rattle.replica_core.proofs.Changes.{set_back}
 use Rattle.replica_core.proofs.Looking.{heeded_fits}
@@ -53,14 +54,15 @@ received_nothing setup message r own = record {
   grown = omega arith;
   stands = λ stamp sendings. ap (λ (told : List (List ℕ)). let p : Standing = record (standing_of stamp sendings r) { told = told } in p) (sym (told_nothing setup.replicas r.told message.from own.told_each));
   knows = sym (set_back (known_to r) r.me) ∙ ap (λ (l : Logs). slice_set l r.me (own_log r)) (sym (with_none message.from (known_to r)));
+  longer = subst (λ (l : Logs). HasGrown l r) (sym (with_none message.from (known_to r))) (record { more = []; log = sym (append-nil (own_log r)); early = row_early r.me 0 (length (own_log r)) (own_log r) own.own (omega arith) });
 }
 
 -- it was taken once the wants that are met are dropped
-took_nothing : (setup : Setup) (message : Message) (r new : Replica) → IsReplica setup r.me r → new ≡ record r { wants = still_wanted (holds_of setup r) r.wants }
+took_nothing : (setup : Setup) (message : Message) (r new : Replica) → IsReplica setup r.me r → new ≡ record r { wants = still_wanted setup.replicas (holds_of setup r) r.wants }
     → HasTaken setup (silent setup.replicas message) r (outcomes.Took message.number 0 0 0) new
 took_nothing setup message r new own is =
-    let drops : Drops setup (silent setup.replicas message) r r new [] = record { received = received_nothing setup message r own; wants = still_wanted (holds_of setup r) r.wants; wants_are = refl; left_is = is } in
-    let left : IsReplica setup new.me new = subst (λ (s : Replica). IsReplica setup s.me s) (sym is) (dropped_own setup r (still_wanted (holds_of setup r) r.wants) own refl) in
+    let drops : Drops setup (silent setup.replicas message) r r new [] = record { received = received_nothing setup message r own; wants = still_wanted setup.replicas (holds_of setup r) r.wants; wants_are = refl; left_is = is } in
+    let left : IsReplica setup new.me new = subst (λ (s : Replica). IsReplica setup s.me s) (sym is) (dropped_own setup r (still_wanted setup.replicas (holds_of setup r) r.wants) own refl) in
     has_taken setup (silent setup.replicas message) r r new new [] drops (logged_none setup new left) (omega arith)
 
 none_of : (xs ys : List LogItem) → [] ≡ xs ++ ys → xs ≡ []
@@ -75,7 +77,7 @@ no_items (x ∷ xs) long = absurd (omega (arith, long))
 pub takes_nothing : (setup : Setup) (message : Message) (r : Replica) (taken : Taken) → IsReplica setup r.me r → taken.batch.items ≡ [] → taken.applied ≡ 0 → taken.accepted ≡ 0 → taken.gave ≡ 0 → IsTaken setup (silent setup.replicas message) r taken
 takes_nothing setup message r taken own none applied accepted gave =
     let quiet : Message = silent setup.replicas message in
-    let new : Replica = record r { wants = still_wanted (holds_of setup r) r.wants } in
+    let new : Replica = record r { wants = still_wanted setup.replicas (holds_of setup r) r.wants } in
     let took = took_nothing setup message r new own refl in
     let takes = took.takes 0 [] in
     let nil : took.applied ≡ [] = none_of took.applied takes.admitted.rest takes.admitted.prefix in
@@ -106,7 +108,7 @@ nothing_taken setup message r taken decided =
     )
 
 -- and that is what was done
-pub nothing_done : (setup : Setup) (message : Message) (r new : Replica) (taken : Taken) → IsReplica setup r.me r → new ≡ record r { wants = still_wanted (holds_of setup r) r.wants } → IsTaken setup (silent setup.replicas message) r taken
+pub nothing_done : (setup : Setup) (message : Message) (r new : Replica) (taken : Taken) → IsReplica setup r.me r → new ≡ record r { wants = still_wanted setup.replicas (holds_of setup r) r.wants } → IsTaken setup (silent setup.replicas message) r taken
     → HasTaken setup (silent setup.replicas message) r (outcomes.Took message.number taken.applied taken.accepted taken.gave) new
 nothing_done setup message r new taken own is decided = subst (λ (o : Outcome). HasTaken setup (silent setup.replicas message) r o new) (nothing_taken setup message r taken decided).1 (took_nothing setup message r new own is)
 
@@ -114,15 +116,15 @@ nothing_done setup message r new taken own is decided = subst (λ (o : Outcome).
 
 -- it is what is decided on a message that fits, or nothing
 pub heeded_or_nothing : (setup : Setup) (r : Replica) (message : Message) (taken : Taken) → TakesHeeded setup r message taken
-    → ((heeded : Message) × MessageFits setup.spec setup.replicas r.me heeded × IsTaken setup heeded r taken) ⊎ (taken.batch.items ≡ [])
+    → ((heeded : Message) × MessageFits setup r.me heeded × IsTaken setup heeded r taken) ⊎ (taken.batch.items ≡ [])
 heeded_or_nothing setup r message taken takes = either takes.heeds takes.takes
   where
-    either : Heeds setup r message takes.heeded → IsTaken setup takes.heeded r taken → ((heeded : Message) × MessageFits setup.spec setup.replicas r.me heeded × IsTaken setup heeded r taken) ⊎ (taken.batch.items ≡ [])
+    either : Heeds setup r message takes.heeded → IsTaken setup takes.heeded r taken → ((heeded : Message) × MessageFits setup r.me heeded × IsTaken setup heeded r taken) ⊎ (taken.batch.items ≡ [])
     either (inl (addressed, part)) decided = inl (takes.heeded, heeded_fits setup r message takes.heeded addressed part, decided)
     either (inr (astray, is)) decided = inr (nothing_taken setup message r taken (subst (λ (m : Message). IsTaken setup m r taken) is decided)).0
 
 -- what is heeded of a message that is addressed, and of one that isn't
-pub heeded_part : (setup : Setup) (r : Replica) (message heeded : Message) → IsAddressed setup r.me message → Heeds setup r message heeded → (heeded.from ≡ message.from) × (heeded.cut ≡ message.cut) × (heeded.number ≡ message.number) × MessageFits setup.spec setup.replicas r.me heeded
+pub heeded_part : (setup : Setup) (r : Replica) (message heeded : Message) → IsAddressed setup r.me message → Heeds setup r message heeded → (heeded.from ≡ message.from) × (heeded.cut ≡ message.cut) × (heeded.number ≡ message.number) × MessageFits setup r.me heeded
 heeded_part setup r message heeded addressed (inl (here, part)) = (
   ap (λ (m : Message). m.from) part.all_else,
   ap (λ (m : Message). m.cut) part.all_else,

@@ -16,12 +16,13 @@ use Rattle.run_model.specs.declared.batch.Batch.{Batch}
 use Rattle.run_model.specs.declared.step.Outcome.{Outcome}
 use Rattle.run_model.specs.declared.step.Outcome.TheVariants as outcomes
 use Rattle.run_model.specs.Logs.{Logs}
-use Rattle.run_model.specs.Rights.{body_loses, first_lacking, held_count}
+use Rattle.run_model.specs.Rights.{body_loses, held_count}
+use Rattle.run_model.specs.Levels.{first_lacking}
 use Rattle.run_model.specs.Worlds.{Standing, logged}
 use Rattle.run_model.specs.Steps.{Takes}
-use Rattle.run_model.specs.Fitting.{BodyFits, MessageFits}
+use Rattle.run_model.specs.Wants.{want_of}
+use Rattle.run_model.specs.Fitting.{BodyFits, MessageFits, WantFits}
 use Rattle.causal_store.specs.Stores.{HasRoomFor, state_truths}
-use Rattle.replica_core.specs.Tables.{NeedFits}
 use Rattle.replica_core.specs.Heeded.{Heeds}
 use Rattle.replica_core.specs.Replicas.{HasAnswered, HasRoom, HasTaken, IsKnown, IsReplica, holds_of, item_of, known_to, own_log, standing_of, with_items}
 use Rattle.replica_core.specs.declared.decision.Decision.{Decision}
@@ -36,8 +37,8 @@ broken_here setup inst r = broken_by setup.spec (state_truths setup.spec r.store
 -- what it decides on a request: that a clause would break, else that it is short of the first need that it doesn't meet, else one act, with all that it has seen in its past
 abbrev pub Decides : Setup → Inst → Replica → Decision → Type 0
 Decides setup inst r (decision.Breaks broken) = broken_here setup inst r ≡ Some broken
-Decides setup inst r (decision.Short lacking) = (first_lacking (holds_of setup r) (needs setup inst) ≡ Some lacking) × NeedFits setup.spec lacking.need × (broken_here setup inst r ≡ None)
-Decides setup inst r (decision.Act batch) = (first_lacking (holds_of setup r) (needs setup inst) ≡ None) × (batch.items ≡ item_of r (body.Act inst) ∷ []) × (broken_here setup inst r ≡ None)
+Decides setup inst r (decision.Short lacking) = (first_lacking setup.replicas (holds_of setup r) (needs setup (state_truths setup.spec r.store) inst) ≡ Some lacking) × WantFits setup (want_of lacking.need) × (broken_here setup inst r ≡ None)
+Decides setup inst r (decision.Act batch) = (first_lacking setup.replicas (holds_of setup r) (needs setup (state_truths setup.spec r.store) inst) ≡ None) × (batch.items ≡ item_of r (body.Act inst) ∷ []) × (broken_here setup inst r ≡ None)
 
 -- what it decides on a message: the items that are applied of it, and then what the own log has more once it was taken, so many of each kind
 pub record IsTaken (setup : Setup) (message : Message) (r : Replica) (taken : Taken) : Type 0 where
@@ -57,7 +58,7 @@ pub record TakesHeeded (setup : Setup) (r : Replica) (message : Message) (taken 
 -- the batch of a take, cut into its three parts
 pub record Splits (setup : Setup) (message : Message) (r : Replica) (taken : Taken) (front accepts outs : List LogItem) : Type 0 where
   pub own : IsReplica setup r.me r
-  pub fits : MessageFits setup.spec setup.replicas r.me message
+  pub fits : MessageFits setup r.me message
   pub decided : IsTaken setup message r taken
   pub front_is : front ≡ take taken.applied taken.batch.items
   pub accepts_are : accepts ≡ take taken.accepted (drop taken.applied taken.batch.items)
@@ -66,7 +67,7 @@ pub record Splits (setup : Setup) (message : Message) (r : Replica) (taken : Tak
 -- an item that replica me may log next, by the logs that it knows: it has all that was seen in its past, and what it loses is held
 pub record IsNext (setup : Setup) (logs : Logs) (me : ℕ) (p : Standing) (item : LogItem) : Type 0 where
   pub is : item ≡ record { origin = me; index = length p.log; deps = p.cut; body = item.body }
-  pub fits : BodyFits setup.spec setup.replicas item.body
+  pub fits : BodyFits setup item.body
   pub known : IsKnown logs me item.body
   pub enough : (cell : Cell) → Contains (cells setup.spec) cell → body_loses setup.spec (right.Low cell) item.body ≤ held_count setup logs me p.log (right.Low cell)
 

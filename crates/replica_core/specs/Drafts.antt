@@ -8,7 +8,8 @@ use Rattle.spec_model.specs.declared.right.Want.{Want}
 use Rattle.spec_model.specs.declared.log.Body.{Body}
 use Rattle.spec_model.specs.declared.log.Body.TheVariants as body
 use Rattle.run_model.specs.Logs.{Logs}
-use Rattle.run_model.specs.Rights.{body_gains, body_loses, held_of, out_gives}
+use Rattle.run_model.specs.Rights.{body_gains, body_loses, out_gives}
+use Rattle.run_model.specs.Holding.{held_of}
 use Rattle.run_model.specs.Worlds.{Standing, logged_all}
 use Rattle.run_model.specs.Steps.{answered}
 use Rattle.replica_core.specs.Replicas.{known_to, own_log, with_items}

@@ -2,7 +2,6 @@
 use Rattle.std.specs.Prelude.{◌≡◌, ◌≢◌, ◌⊎◌, ℕ, ◌+◌, ◌<◌, ◌≤◌, ◌^◌, List, [], ◌∷◌, ◌++◌, length, take, sum_by, slice_get, slice_index, Some}
 use Rattle.std.specs.List.{AllByRecursion}
 use Rattle.spec_model.specs.declared.plan.Setup.{Setup}
-use Rattle.spec_model.specs.declared.spec.Spec.{Spec}
 use Rattle.spec_model.specs.declared.instance.Cell.{Cell}
 use Rattle.spec_model.specs.declared.right.Right.TheVariants as right
 use Rattle.spec_model.specs.declared.right.Want.{Want}
@@ -50,7 +49,7 @@ first_at (item ∷ items) = item.index
 
 -- the item fits, is this one of the sender's log, and can be accepted behind these
 pub record MayFollow (setup : Setup) (r : Replica) (from index : ℕ) (before : List LogItem) (item : LogItem) : Type 0 where
-  pub fits : ItemFits setup.spec setup.replicas item
+  pub fits : ItemFits setup item
   pub is : IsItem from index item
   pub accepted : CanAccept setup r before item
 
@@ -58,7 +57,7 @@ pub record MayFollow (setup : Setup) (r : Replica) (from index : ℕ) (before : 
 pub record MayApply (setup : Setup) (r : Replica) (from : ℕ) (items : List LogItem) : Type 0 where
   pub first : ℕ
   pub row : AreInRow from first items
-  pub fits : AllByRecursion (ItemFits setup.spec setup.replicas) items
+  pub fits : AllByRecursion (ItemFits setup) items
   pub accepted : (k : ℕ) (item : LogItem) → slice_get items k ≡ Some item → CanAccept setup r (take k items) item
 
 -- of these items the longest front that it may apply
@@ -69,16 +68,16 @@ pub record AreHeeded (setup : Setup) (r : Replica) (from : ℕ) (items heeded : 
   pub longest : (item : LogItem) (behind : List LogItem) → rest ≡ item ∷ behind → MayApply setup r from (heeded ++ item ∷ []) → ⊥
 
 -- of these wants those that fit, in their order
-abbrev pub AreFitting : Spec → List Want → List Want → Type 0
-AreFitting spec [] fitting = fitting ≡ []
-AreFitting spec (want ∷ wants) fitting =
-    (WantFits spec want × (rest : List Want) × (fitting ≡ want ∷ rest) × AreFitting spec wants rest)
-    ⊎ ((WantFits spec want → ⊥) × AreFitting spec wants fitting)
+abbrev pub AreFitting : Setup → List Want → List Want → Type 0
+AreFitting setup [] fitting = fitting ≡ []
+AreFitting setup (want ∷ wants) fitting =
+    (WantFits setup want × (rest : List Want) × (fitting ≡ want ∷ rest) × AreFitting setup wants rest)
+    ⊎ ((WantFits setup want → ⊥) × AreFitting setup wants fitting)
 
 -- of a message that is addressed at most the first 16 items and the first 8 wants
 pub record IsPartOf (setup : Setup) (r : Replica) (message heeded : Message) : Type 0 where
   pub items : AreHeeded setup r message.from (take 16 message.items) heeded.items
-  pub wants : AreFitting setup.spec (take 8 message.wants) heeded.wants
+  pub wants : AreFitting setup (take 8 message.wants) heeded.wants
   pub all_else : heeded ≡ record message { items = heeded.items; wants = heeded.wants }
 
 -- a message that tells, brings and wants nothing

@@ -2,7 +2,6 @@
 use Rattle.std.specs.Prelude.{◌≡◌, ◌≢◌, ℕ, ◌+◌, ◌<◌, ◌≤◌, ◌^◌, List, ◌++◌, length, slice_set, sum_by, Contains}
 use Rattle.std.specs.List.{AllByRecursion}
 use Rattle.spec_model.specs.declared.plan.Setup.{Setup}
-use Rattle.spec_model.specs.declared.spec.Spec.{Spec}
 use Rattle.spec_model.specs.declared.instance.Cell.{Cell}
 use Rattle.spec_model.specs.declared.instance.Inst.{Inst}
 use Rattle.spec_model.specs.declared.right.Right.TheVariants as right
@@ -15,12 +14,13 @@ use Rattle.run_model.specs.declared.step.Outcome.{Outcome}
 use Rattle.run_model.specs.Logs.{Logs, log_at}
 use Rattle.spec_model.specs.declared.right.Need.{Need}
 use Rattle.spec_model.specs.declared.right.Held.{Held}
-use Rattle.run_model.specs.Rights.{body_gains, body_loses, even_share, first_count, held_of}
+use Rattle.run_model.specs.Rights.{body_gains, body_loses, even_share, first_count}
+use Rattle.run_model.specs.Holding.{held_of}
 use Rattle.run_model.specs.Worlds.{Standing, Sending, logged, logged_all}
 use Rattle.run_model.specs.Steps.{Requests, Takes}
-use Rattle.run_model.specs.Fitting.{AreInRow, ItemFits, WantFits}
+use Rattle.run_model.specs.Fitting.{AreInRow, IsPlaced, ItemFits, WantFits}
 use Rattle.causal_store.specs.Stores.{IsStore, cut_in, logs_in}
-use Rattle.replica_core.specs.Tables.{AreHeld}
+use Rattle.replica_core.specs.Tables.{AreHeld, HasLowsAlone}
 use Rattle.replica_core.specs.declared.replica.Replica.{Replica}
 
 -- the logs that it knows
@@ -62,16 +62,18 @@ AreCovered setup known me own = (cell : Cell) → Contains (cells setup.spec) ce
     → sum_by (λ item. body_loses setup.spec (right.Low cell) item.body) own
     ≤ even_share (first_count setup.spec (right.Low cell)) setup.replicas me + sum_by (λ item. body_gains setup.spec known (right.Low cell) item.body) own
 
--- replica me: its own log, what it applied, what it holds, wants and was told
+-- replica me, of a setup with rights to lower cells alone: its own log, what it applied, what it holds, wants and was told
 pub record IsReplica (setup : Setup) (me : ℕ) (r : Replica) : Type 0 where
   pub me_is : r.me ≡ me
   pub within : me < setup.replicas
-  pub store : IsStore setup.spec setup.replicas r.store
+  pub alone : HasLowsAlone setup
+  pub store : IsStore setup.replicas r.store
+  pub fits : AllByRecursion (AllByRecursion (ItemFits setup)) (known_to r)
   pub own : AreInRow me 0 (log_at (known_to r) me)
   pub known : AllByRecursion (λ item. IsKnown (known_to r) me item.body) (log_at (known_to r) me)
   pub covered : AreCovered setup (known_to r) me (log_at (known_to r) me)
   pub holds : AreHeld setup (known_to r) me (log_at (known_to r) me) r.lows
-  pub wants : AllByRecursion (WantFits setup.spec) r.wants
+  pub wants : AllByRecursion (WantFits setup) r.wants
   pub few_wants : length r.wants ≤ 8
   pub told : length r.told ≡ setup.replicas
   pub told_each : AllByRecursion (λ cut. length cut ≡ setup.replicas) r.told
@@ -108,17 +110,17 @@ abbrev pub with_items : ℕ → List LogItem → Logs → Logs
 with_items from applied known = slice_set known from (log_at known from ++ applied)
 
 -- these are the next items of another log, which the store may apply
-pub record CanLearn (spec : Spec) (r : Replica) (items : List LogItem) : Type 0 where
+pub record CanLearn (r : Replica) (items : List LogItem) : Type 0 where
   pub from : ℕ
-  pub store : IsStore spec (length (known_to r)) r.store
+  pub store : IsStore (length (known_to r)) r.store
   pub place : from < length (known_to r)
   pub row : AreInRow from (length (log_at (known_to r) from)) items
-  pub fits : AllByRecursion (ItemFits spec (length (known_to r))) items
+  pub fits : AllByRecursion (IsPlaced (length (known_to r))) items
 
 -- these items stand at the end of the log that they are of, and all else is as it was
-pub record HasLearned (spec : Spec) (items : List LogItem) (old new : Replica) : Type 0 where
+pub record HasLearned (items : List LogItem) (old new : Replica) : Type 0 where
   pub kept : new ≡ record old { store = new.store }
-  pub store : IsStore spec (length (known_to old)) new.store
+  pub store : IsStore (length (known_to old)) new.store
   pub logs : (from : ℕ) → AreInRow from (length (log_at (known_to old) from)) items → from < length (known_to old) → known_to new ≡ with_items from items (known_to old)
 
 -- a message was taken so

@@ -10,8 +10,7 @@ use Rattle.run_model.specs.declared.history.CellValue.{CellValue}
 use Rattle.run_model.specs.declared.history.Hold.{Hold}
 use Rattle.run_model.specs.Logs.{items_in}
 use Rattle.run_model.specs.States.{truth_of, value_of}
-use Rattle.run_model.specs.Rights.{held_count}
-use Rattle.run_model.specs.Finals.{hold_of}
+use Rattle.run_model.specs.Finals.{shown}
 use Rattle.causal_store.specs.Stores.{cut_in}
 use Rattle.replica_core.specs.Replicas.{known_to, own_log}
 use Rattle.replica_core.specs.declared.replica.Replica.{Replica}
@@ -26,4 +25,4 @@ value_now spec r cell = record { cell = cell; value = value_of spec (items_in (c
 
 -- what it holds of the rights to lower the cell, if that has a lower bound
 abbrev pub low_hold : Setup → Replica → Cell → List Hold
-low_hold setup r cell = if is_some (lower_bound setup.spec cell) then hold_of (right.Low cell) (held_count setup (known_to r) r.me (own_log r) (right.Low cell)) else []
+low_hold setup r cell = if is_some (lower_bound setup.spec cell) then shown setup (known_to r) r.me (own_log r) (right.Low cell) else []

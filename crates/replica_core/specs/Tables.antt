@@ -1,5 +1,5 @@
 -- A table of rights: how many to lower each cell, by the cell's place in the universe.
-use Rattle.std.specs.Prelude.{◌≡◌, true, ℕ, ◌+◌, ◌*◌, ◌<◌, ◌≤◌, ◌^◌, List, length, is_some, if◌then◌else◌, slice_get, slice_index, Some, None, Contains}
+use Rattle.std.specs.Prelude.{◌≡◌, true, ℕ, ◌+◌, ◌*◌, ◌<◌, ◌≤◌, ◌^◌, List, [], length, is_some, if◌then◌else◌, slice_get, slice_index, Some, None, Contains}
 use Rattle.spec_model.specs.declared.plan.Setup.{Setup}
 use Rattle.spec_model.specs.declared.spec.Spec.{Spec}
 use Rattle.spec_model.specs.declared.instance.Cell.{Cell}
@@ -7,6 +7,11 @@ use Rattle.spec_model.specs.declared.instance.Inst.{Inst}
 use Rattle.spec_model.specs.declared.operation.Line.{Line}
 use Rattle.spec_model.specs.declared.right.Right.{Right}
 use Rattle.spec_model.specs.declared.right.Right.TheVariants as right
+use Rattle.spec_model.specs.declared.right.Piece.{Piece}
+use Rattle.spec_model.specs.declared.right.Piece.TheVariants as piece
+use Rattle.spec_model.specs.declared.right.Want.{Want}
+use Rattle.spec_model.specs.declared.right.WantAsk.{WantAsk}
+use Rattle.spec_model.specs.declared.right.WantAsk.TheVariants as asked
 use Rattle.spec_model.specs.declared.log.LogItem.{LogItem}
 use Rattle.spec_model.specs.declared.right.Need.{Need}
 use Rattle.spec_model.specs.declared.right.Amount.TheVariants as amount
@@ -59,9 +64,32 @@ pub record SpendsBy (spec : Spec) (inst : Inst) (old new : List ℕ) : Type 0 wh
   pub long : length new ≡ length old
   pub at : (i : ℕ) (cell : Cell) → slice_get (cells spec) i ≡ Some cell → slice_index new i + spends spec inst (right.Low cell) ≡ slice_index old i + creates spec inst (right.Low cell)
 
--- no cell has an upper bound
-abbrev pub HasNoUpper : Spec → Type 0
-HasNoUpper spec = (cell : Cell) → upper_bound spec cell ≡ None
+-- there are rights to lower cells alone: no cell has an upper bound, and the plan is empty
+pub record HasLowsAlone (setup : Setup) : Type 0 where
+  pub upper : (cell : Cell) → upper_bound setup.spec cell ≡ None
+  pub locks : setup.plan.locks ≡ []
+  pub masks : setup.plan.masks ≡ []
+  pub parts : setup.plan.parts ≡ []
+
+-- a right to lower a cell of the universe, which has a lower bound
+abbrev pub IsLow : Spec → Right → Type 0
+IsLow spec (right.Low cell) = Contains (cells spec) cell × (is_some (lower_bound spec cell) ≡ true)
+IsLow spec _ = ⊥
+
+-- a piece of it: some, as many as a number of 64 bits counts
+abbrev pub IsCount : Piece → Type 0
+IsCount (piece.Count n) = (1 ≤ n) × (n < 2 ^ 64)
+IsCount _ = ⊥
+
+-- what is asked for of it
+abbrev pub AsksCount : WantAsk → Type 0
+AsksCount (asked.Count n) = n < 2 ^ 64
+AsksCount _ = ⊥
+
+-- a want on it
+pub record IsLowWant (spec : Spec) (want : Want) : Type 0 where
+  pub of : IsLow spec want.right
+  pub much : AsksCount want.ask
 
 -- the need of so many rights to lower a cell
 abbrev pub low_need : Cell → ℕ → Need

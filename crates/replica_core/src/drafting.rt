@@ -1,19 +1,18 @@
 //! What a replica decides on a message.
 
 ghost use Rattle.std.specs.Prelude.{◌≡◌, ◌+◌, ◌<◌, ◌≤◌, ◌^◌, ◌++◌, ◌∷◌, [], All, IfOk, OnOk, length, Contains};
-ghost use Rattle.spec_model.specs.declared.spec.Spec.{Spec as SpecOf};
 ghost use Rattle.spec_model.specs.declared.plan.Setup.{Setup as SetupOf};
 ghost use Rattle.run_model.specs.declared.message.Message.{Message as MessageOf};
 ghost use Rattle.spec_model.specs.Fits.{IsWellFormed};
 ghost use Rattle.spec_model.specs.Universe.{cells};
 ghost use Rattle.spec_model.specs.declared.right.Right.TheVariants as right;
 ghost use Rattle.spec_model.specs.declared.right.WantAsk.TheVariants as asked;
-ghost use Rattle.run_model.specs.Fitting.{ItemFits, MessageFits, WantFits};
+ghost use Rattle.run_model.specs.Fitting.{IsPlaced, MessageFits, WantFits};
 ghost use Rattle.run_model.specs.Rights.{held_count};
 ghost use Rattle.run_model.specs.Steps.{AreAdmitted, accept_of, accepts_of, cut_after, given};
 ghost use Rattle.run_model.specs.Wants.{need_of, piece_for};
 ghost use Rattle.causal_store.specs.Stores.{cut_in};
-ghost use Rattle.replica_core.specs.Tables.{low_need};
+ghost use Rattle.replica_core.specs.Tables.{IsLowWant, low_need};
 
 use crate::decision::Taken;
 use crate::draft::Draft;
@@ -30,7 +29,7 @@ use std::alloc::Global;
 /// What is seen once these items are applied too.
 fn seen_after(cut: Cut, replicas: u32, items: &[LogItem]) -> Cut
     requires whole { length cut ≡ replicas }
-    requires fits { (spec : SpecOf) × All (ItemFits spec replicas) items.now }
+    requires fits { All (IsPlaced replicas) items.now }
     ensures { result ≡ cut_after cut items.now }
 {
     let mut seen = cut;
@@ -169,7 +168,7 @@ impl Replica {
         requires accepted { HasAccepted setup.now self.now draft.old }
         requires few { length draft.old.applied ≤ 16 }
         requires few_own { length draft.old.own < 24 }
-        requires fits { WantFits setup.now.spec want.now }
+        requires fits { IsLowWant setup.now.spec want.now }
         requires room { HasRoom 24 self.now }
         ensures { OnOk result (HasDrafted self.now (given (piece_for (drafted_holds setup.now self.now draft.old (need_of want.now)) want.now.ask) to want.now.right) draft.old draft.new) }
     {
@@ -197,7 +196,7 @@ impl Replica {
         requires few { length draft.old.applied ≤ 16 }
         requires few_own { length draft.old.own ≤ 16 }
         requires few_wants { length wants.now ≤ 8 }
-        requires fits { All (WantFits setup.now.spec) wants.now }
+        requires fits { All (WantFits setup.now) wants.now }
         requires room { HasRoom 24 self.now }
         ensures { OnOk result (HasDraftedAnswers setup.now self.now to wants.now draft.old draft.new) }
     {
@@ -210,7 +209,7 @@ impl Replica {
     /// The items of a message that may be applied.
     fn admitted(&self, alloc: Global, setup: &Setup, message: &Message) -> Result<Draft, NoMemory>
         requires own { IsReplica setup.now self.now.me self.now }
-        requires fits { MessageFits setup.now.spec setup.now.replicas self.now.me message.now }
+        requires fits { MessageFits setup.now self.now.me message.now }
         ensures admitted { IfOk result (λ d. AreAdmitted (cut_in self.now.store) message.now.items d.applied) }
         ensures none { IfOk result (λ d. d.own ≡ []) }
         ensures cut { IfOk result (λ d. d.cut ≡ cut_after (cut_in self.now.store) d.applied) }
@@ -237,7 +236,7 @@ impl Replica {
     ) -> Result<Taken, NoMemory>
         requires well_formed { IsWellFormed setup.now.spec }
         requires own { IsReplica setup.now self.now.me self.now }
-        requires fits { MessageFits setup.now.spec setup.now.replicas self.now.me message.now }
+        requires fits { MessageFits setup.now self.now.me message.now }
         requires room { HasRoom 24 self.now }
         ensures { IfOk result (λ taken. IsTaken setup.now message.now self.now taken) }
     {

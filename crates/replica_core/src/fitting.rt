@@ -1,8 +1,9 @@
 //! Tests of whether what a message brings fits the setup.
 
 ghost use Rattle.std.specs.Prelude.{◌≡◌, ◌≢◌, ◌+◌, ◌<◌, ◌≤◌, ◌↔◌, IfOk, IsTrue, length, slice_index};
-ghost use Rattle.run_model.specs.Fitting.{AskFits, BodyFits, ItemFits, PieceFits, RightFits, WantFits};
+ghost use Rattle.run_model.specs.Fitting.{BodyFits, ItemFits, PieceFits, RightFits, WantFits};
 ghost use Rattle.replica_core.specs.Heeded.{AreFitting, IsAddressed};
+ghost use Rattle.replica_core.specs.Tables.{AsksCount, HasLowsAlone, IsCount, IsLow};
 
 use crate::spending::is_bounded;
 use effect_model::{cell_fits, inst_fits, universe_is_all};
@@ -23,8 +24,8 @@ pub(crate) fn is_addressed(setup: &Setup, me: u32, message: &Message) -> bool
 }
 
 /// Whether it is a right to lower a cell of the universe, which has a lower bound.
-fn right_fits(spec: &Spec, right: &Right) -> bool
-    ensures { IsTrue result ↔ RightFits spec.now right.now }
+fn is_low(spec: &Spec, right: &Right) -> bool
+    ensures { IsTrue result ↔ IsLow spec.now right.now }
 {
     universe_is_all();
     match right {
@@ -33,19 +34,19 @@ fn right_fits(spec: &Spec, right: &Right) -> bool
     }
 }
 
-/// Whether a piece is a count.
-fn piece_fits(piece: &Piece) -> bool
-    ensures { IsTrue result ↔ PieceFits piece.now }
+/// Whether a piece is a count, and not of none.
+fn is_count(piece: &Piece) -> bool
+    ensures { IsTrue result ↔ IsCount piece.now }
 {
     match piece {
-        Piece::Count(count) => *count <= u64::MAX,
+        Piece::Count(count) => 1 <= *count && *count <= u64::MAX,
         _ => false,
     }
 }
 
 /// Whether a want asks for a count.
-fn ask_fits(ask: &WantAsk) -> bool
-    ensures { IsTrue result ↔ AskFits ask.now }
+fn asks_count(ask: &WantAsk) -> bool
+    ensures { IsTrue result ↔ AsksCount ask.now }
 {
     match ask {
         WantAsk::Count(count) => *count <= u64::MAX,
@@ -53,46 +54,56 @@ fn ask_fits(ask: &WantAsk) -> bool
     }
 }
 
-fn body_fits(spec: &Spec, replicas: u32, body: &Body) -> bool
-    ensures { IsTrue result ↔ BodyFits spec.now replicas body.now }
+/// Whether it is a piece of a right of the setup, which has rights to lower cells alone.
+fn piece_fits(setup: &Setup, right: &Right, piece: &Piece) -> bool
+    requires alone { HasLowsAlone setup.now }
+    ensures { IsTrue result ↔ (RightFits setup.now right.now × PieceFits setup.now right.now piece.now) }
+{
+    is_low(&setup.spec, right) && is_count(piece)
+}
+
+fn body_fits(setup: &Setup, body: &Body) -> bool
+    requires alone { HasLowsAlone setup.now }
+    ensures { IsTrue result ↔ BodyFits setup.now body.now }
 {
     match body {
-        Body::Act(inst) => inst_fits(spec, inst),
-        Body::Out { to, right, piece } => {
-            *to < replicas && right_fits(spec, right) && piece_fits(piece)
-        }
-        Body::Accept { from, index } => *from < replicas && *index < u32::MAX,
+        Body::Act(inst) => inst_fits(&setup.spec, inst),
+        Body::Out { to, right, piece } => *to < setup.replicas && piece_fits(setup, right, piece),
+        Body::Accept { from, index } => *from < setup.replicas && *index < u32::MAX,
     }
 }
 
 /// Whether an item fits the setup.
-pub(crate) fn item_fits(spec: &Spec, replicas: u32, item: &LogItem) -> bool
-    ensures { IsTrue result ↔ ItemFits spec.now replicas item.now }
+pub(crate) fn item_fits(setup: &Setup, item: &LogItem) -> bool
+    requires alone { HasLowsAlone setup.now }
+    ensures { IsTrue result ↔ ItemFits setup.now item.now }
 {
-    item.origin < replicas
+    item.origin < setup.replicas
         && item.index < u32::MAX
-        && item.deps.len() == replicas as usize
-        && body_fits(spec, replicas, &item.body)
+        && item.deps.len() == setup.replicas as usize
+        && body_fits(setup, &item.body)
 }
 
-/// Whether a want fits the specification.
-fn want_fits(spec: &Spec, want: &Want) -> bool
-    ensures { IsTrue result ↔ WantFits spec.now want.now }
+/// Whether a want fits the setup.
+fn want_fits(setup: &Setup, want: &Want) -> bool
+    requires alone { HasLowsAlone setup.now }
+    ensures { IsTrue result ↔ WantFits setup.now want.now }
 {
-    right_fits(spec, &want.right) && ask_fits(&want.ask)
+    is_low(&setup.spec, &want.right) && asks_count(&want.ask)
 }
 
 /// The wants that fit, in their order.
 pub(crate) fn fitting_wants(
     alloc: Global,
-    spec: &Spec,
+    setup: &Setup,
     wants: &[Want],
 ) -> Result<List<Want>, NoMemory>
-    ensures { IfOk result (AreFitting spec.now wants.now) }
+    requires alone { HasLowsAlone setup.now }
+    ensures { IfOk result (AreFitting setup.now wants.now) }
 {
     let mut fitting = List::new(alloc);
     for want in wants {
-        if want_fits(spec, want) {
+        if want_fits(setup, want) {
             let _so_far = fitting.as_slice();
             fitting.push(*want)?;
         }

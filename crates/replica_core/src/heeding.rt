@@ -120,7 +120,7 @@ impl Replica {
         requires own { IsReplica setup.now self.now.me self.now }
         requires room { HasRoom 0 self.now }
         requires few { length before.now ≤ 16 }
-        requires fits { ItemFits setup.now.spec setup.now.replicas item.now }
+        requires fits { ItemFits setup.now item.now }
         ensures { IsTrue result ↔ CanAccept setup.now self.now before.now item.now }
     {
         match item.body {
@@ -148,9 +148,7 @@ impl Replica {
         requires few { length before.now ≤ 16 }
         ensures { IsTrue result ↔ MayFollow setup.now self.now from index before.now item.now }
     {
-        item_fits(&setup.spec, setup.replicas, item)
-            && is_item(from, index, item)
-            && self.can_accept(setup, before, item)
+        item_fits(setup, item) && is_item(from, index, item) && self.can_accept(setup, before, item)
     }
 
     /// How many of these items it may apply as those of this sender.
@@ -184,7 +182,7 @@ impl Replica {
         requires room { HasRoom 0 self.now }
         requires addressed { IsAddressed setup.now self.now.me message.now }
         ensures part { IfOk result (IsPartOf setup.now self.now message.now) }
-        ensures fits { IfOk result (MessageFits setup.now.spec setup.now.replicas self.now.me) }
+        ensures fits { IfOk result (MessageFits setup.now self.now.me) }
     {
         let items = first_of(message.items.as_slice(), ITEMS);
         let (items, _) = items.split_at(self.heeded_count(setup, message.from, items));
@@ -196,7 +194,7 @@ impl Replica {
             stamp: message.stamp,
             cut: message.cut,
             items: List::from_slice(alloc, items)?,
-            wants: fitting_wants(alloc, &setup.spec, wants)?,
+            wants: fitting_wants(alloc, setup, wants)?,
         })
     }
 }

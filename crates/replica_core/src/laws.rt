@@ -1,11 +1,6 @@
 //! Laws of runs and of requests, for callers to cite.
 
-ghost use Rattle.replica_core.specs.Laws.{BreaksChangeNothing, FirstsKeepBounds, HoldsAreSmall, MessagesAreHeeded, MessagesFit};
-
-/// Each cell begins within its bounds.
-pub fn firsts_keep_bounds()
-    ensures { FirstsKeepBounds }
-{}
+ghost use Rattle.replica_core.specs.Laws.{BreaksChangeNothing, HoldsAreSmall, MessagesAreHeeded, MessagesFit};
 
 /// What a replica holds of the rights to lower a cell is less than 2^64, in a run of at most eight
 /// replicas that log at most 2^22 items each.
@@ -13,13 +8,13 @@ pub fn holds_are_small()
     ensures { HoldsAreSmall }
 {}
 
-/// What was sent to a replica fits it, in a run without upper bounds whose replicas log at most
+/// What was sent to a replica fits it, in a run with rights to lower alone whose replicas log at most
 /// 2^22 items each, where each instance that was asked for fits the specification.
 pub fn messages_fit()
     ensures { MessagesFit }
 {}
 
-/// A replica heeds whole what was sent to it, in a run without upper bounds of at most eight
+/// A replica heeds whole what was sent to it, in a run with rights to lower alone of at most eight
 /// replicas that log at most 2^22 items each, where each instance that was asked for fits the
 /// specification.
 pub fn messages_are_heeded()

@@ -18,7 +18,5 @@ mod taking;
 mod wanting;
 
 pub use decision::{Decision, Taken};
-pub use laws::{
-    breaks_change_nothing, firsts_keep_bounds, holds_are_small, messages_are_heeded, messages_fit,
-};
+pub use laws::{breaks_change_nothing, holds_are_small, messages_are_heeded, messages_fit};
 pub use replica::Replica;

@@ -6,21 +6,21 @@ ghost use Rattle.spec_model.specs.Universe.{cells};
 ghost use Rattle.spec_model.specs.declared.instance.Cell.{Cell as CellOf};
 ghost use Rattle.spec_model.specs.declared.log.Body.TheVariants as out;
 ghost use Rattle.spec_model.specs.declared.right.Right.TheVariants as low;
-ghost use Rattle.run_model.specs.Fitting.{BodyFits, PieceFits, RightFits};
+ghost use Rattle.run_model.specs.Fitting.{BodyFits};
 ghost use Rattle.run_model.specs.Rights as rights;
 ghost use Rattle.replica_core.specs.Drafts as drafts;
-ghost use Rattle.replica_core.specs.Tables.{AreUpTo, LowersBy, RaisesBy};
+ghost use Rattle.replica_core.specs.Tables.{AreUpTo, HasLowsAlone, IsCount, IsLow, LowersBy, RaisesBy};
 
 use crate::rights::{gain, lose};
 use crate::wanting::same_right;
 use ind_base::List;
-use spec_model::{Body, Cell, LogItem, Piece, Right, Spec};
+use spec_model::{Body, Cell, LogItem, Piece, Right, Setup, Spec};
 
 /// Adds a piece of a right to lower a cell.
 fn gain_piece(counts: &mut List<u128>, spec: &Spec, right: &Right, piece: &Piece)
     requires well_formed { IsWellFormed spec.now }
-    requires right { RightFits spec.now right.now }
-    requires piece { PieceFits piece.now }
+    requires right { IsLow spec.now right.now }
+    requires piece { IsCount piece.now }
     requires whole { length counts.old ≡ length (cells spec.now) }
     requires small { AreUpTo (2 ^ 100) counts.old }
     ensures raises { RaisesBy spec.now (λ c. rights.out_gives (low.Low c) (out.Out 0 right.now piece.now)) counts.old counts.new }
@@ -36,16 +36,17 @@ fn gain_piece(counts: &mut List<u128>, spec: &Spec, right: &Right, piece: &Piece
 }
 
 /// Adds what a body gives.
-pub(crate) fn gain_out(counts: &mut List<u128>, spec: &Spec, body: &Body)
-    requires well_formed { IsWellFormed spec.now }
-    requires fits { (replicas : ℕ) × BodyFits spec.now replicas body.now }
-    requires whole { length counts.old ≡ length (cells spec.now) }
+pub(crate) fn gain_out(counts: &mut List<u128>, setup: &Setup, body: &Body)
+    requires well_formed { IsWellFormed setup.now.spec }
+    requires alone { HasLowsAlone setup.now }
+    requires fits { BodyFits setup.now body.now }
+    requires whole { length counts.old ≡ length (cells setup.now.spec) }
     requires small { AreUpTo (2 ^ 100) counts.old }
-    ensures raises { RaisesBy spec.now (λ c. rights.out_gives (low.Low c) body.now) counts.old counts.new }
+    ensures raises { RaisesBy setup.now.spec (λ c. rights.out_gives (low.Low c) body.now) counts.old counts.new }
     ensures small { (bound : ℕ) → AreUpTo bound counts.old → AreUpTo (bound + 2 ^ 64) counts.new }
 {
     match body {
-        Body::Out { right, piece, .. } => gain_piece(counts, spec, right, piece),
+        Body::Out { right, piece, .. } => gain_piece(counts, &setup.spec, right, piece),
         Body::Act(_) => {}
         Body::Accept { .. } => {}
     }
@@ -54,8 +55,8 @@ pub(crate) fn gain_out(counts: &mut List<u128>, spec: &Spec, body: &Body)
 /// Takes a piece of a right to lower a cell away. It is held.
 pub(crate) fn lose_piece(counts: &mut List<u128>, spec: &Spec, right: &Right, piece: &Piece)
     requires well_formed { IsWellFormed spec.now }
-    requires right { RightFits spec.now right.now }
-    requires piece { PieceFits piece.now }
+    requires right { IsLow spec.now right.now }
+    requires piece { IsCount piece.now }
     requires whole { length counts.old ≡ length (cells spec.now) }
     requires held { (i : ℕ) (c : CellOf) → slice_get (cells spec.now) i ≡ Some c → rights.out_gives (low.Low c) (out.Out 0 right.now piece.now) ≤ slice_index counts.old i }
     ensures lowers { LowersBy spec.now (λ c. rights.out_gives (low.Low c) (out.Out 0 right.now piece.now)) counts.old counts.new }
@@ -76,7 +77,8 @@ fn piece_count(piece: &Piece) -> u64
 {
     match piece {
         Piece::Count(count) => *count,
-        _ => 0,
+        Piece::Shares { shares, .. } => u64::from(*shares),
+        Piece::Points(_) => 0,
     }
 }
 

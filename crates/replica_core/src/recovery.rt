@@ -5,6 +5,7 @@ ghost use Rattle.spec_model.specs.declared.log.LogItem.{LogItem as ItemOf};
 ghost use Rattle.spec_model.specs.Fits.{IsWellFormed};
 ghost use Rattle.run_model.specs.declared.batch.Batch.{Batch as BatchOf};
 ghost use Rattle.causal_store.specs.Stores.{IsShort};
+ghost use Rattle.replica_core.specs.Tables.{HasLowsAlone};
 
 use crate::replica::Replica;
 use ind_base::NoMemory;
@@ -69,6 +70,7 @@ impl Replica {
         batches: &[Batch],
     ) -> Result<Replica, NoMemory>
         requires well_formed { IsWellFormed setup.now.spec }
+        requires alone { HasLowsAlone setup.now }
         requires place { me < setup.now.replicas }
         requires few { setup.now.replicas ≤ 16 }
         requires few_batches { length batches.now ≤ 100000 }

@@ -14,6 +14,7 @@ ghost use Rattle.run_model.specs.Fitting.{BodyFits};
 ghost use Rattle.run_model.specs.Rights.{held_count, out_gives};
 ghost use Rattle.run_model.specs.Worlds.{first_standing, no_cut};
 ghost use Rattle.causal_store.specs.Stores.{IsStore, cut_in, logs_in};
+ghost use Rattle.replica_core.specs.Tables.{HasLowsAlone};
 
 use crate::pieces::{gain_out, lose_piece};
 use crate::rights::{first_rights, held_at};
@@ -27,7 +28,7 @@ use std::alloc::Global;
 
 /// A replica: what it has applied, what it holds of the rights to lower cells, what it wants, and
 /// what the others told it that they have seen.
-#[derive(Debug, Drop)]
+#[derive(Drop)]
 pub struct Replica {
     pub(crate) me: u32,
     pub(crate) store: Store,
@@ -71,6 +72,7 @@ impl Replica {
     /// A replica before its first step.
     pub fn begin(alloc: Global, setup: &Setup, me: u32) -> Result<Replica, NoMemory>
         requires well_formed { IsWellFormed setup.now.spec }
+        requires alone { HasLowsAlone setup.now }
         requires place { me < setup.now.replicas }
         requires few { setup.now.replicas ≤ 16 }
         ensures own { IfOk result (IsReplica setup.now me) }
@@ -121,14 +123,14 @@ impl Replica {
 
     /// Puts its next item at the end of its own log.
     fn append(&mut self, spec: &Spec, item: &LogItem)
-        requires store { IsStore spec.now (length (known_to self.old)) self.old.store }
+        requires store { IsStore (length (known_to self.old)) self.old.store }
         requires place { self.old.me < length (known_to self.old) }
-        requires next { (b : BodyOf) × (item.now ≡ item_of self.old b) × BodyFits spec.now (length (known_to self.old)) b }
+        requires next { (b : BodyOf) × (item.now ≡ item_of self.old b) }
         requires room { HasRoom 1 self.old }
         requires ready { (items : List ItemOf) × IsReadyFor self.old (item.now ∷ items) }
         ensures kept { self.new ≡ record self.old { store = self.new.store } }
         ensures logs { known_to self.new ≡ slice_set (known_to self.old) self.old.me (own_log self.old ++ item.now ∷ []) }
-        ensures store { IsStore spec.now (length (known_to self.old)) self.new.store }
+        ensures store { IsStore (length (known_to self.old)) self.new.store }
         ensures ready { (items : List ItemOf) → IsReadyFor self.old (item.now ∷ items) → IsReadyFor self.new items }
     {
         self.store.apply(spec, item);
@@ -155,7 +157,7 @@ impl Replica {
         requires well_formed { IsWellFormed setup.now.spec }
         requires own { IsReplica setup.now self.old.me self.old }
         requires next { item.now ≡ item_of self.old (body.Accept from index) }
-        requires fits { BodyFits setup.now.spec setup.now.replicas (body.Accept from index) }
+        requires fits { BodyFits setup.now (body.Accept from index) }
         requires known { IsKnown (known_to self.old) self.old.me (body.Accept from index) }
         requires room { HasRoom 1 self.old }
         requires ready { (items : List ItemOf) × IsReadyFor self.old (item.now ∷ items) }
@@ -163,7 +165,7 @@ impl Replica {
         ensures ready { (items : List ItemOf) → IsReadyFor self.old (item.now ∷ items) → IsReadyFor self.new items }
     {
         let out = self.store.log(from)[index as usize];
-        gain_out(&mut self.lows, &setup.spec, &out.body);
+        gain_out(&mut self.lows, setup, &out.body);
         self.append(&setup.spec, item);
     }
 
@@ -172,7 +174,7 @@ impl Replica {
         requires well_formed { IsWellFormed setup.now.spec }
         requires own { IsReplica setup.now self.old.me self.old }
         requires next { item.now ≡ item_of self.old (body.Out to right.now piece.now) }
-        requires fits { BodyFits setup.now.spec setup.now.replicas (body.Out to right.now piece.now) }
+        requires fits { BodyFits setup.now (body.Out to right.now piece.now) }
         requires held { (cell : CellOf) → Contains (cells setup.now.spec) cell → out_gives (low.Low cell) (body.Out to right.now piece.now) ≤ held_count setup.now (known_to self.old) self.old.me (own_log self.old) (low.Low cell) }
         requires room { HasRoom 1 self.old }
         requires ready { (items : List ItemOf) × IsReadyFor self.old (item.now ∷ items) }

@@ -9,7 +9,6 @@ ghost use Rattle.spec_model.specs.declared.right.Right.TheVariants as right;
 ghost use Rattle.run_model.specs.Finals.{final_of};
 ghost use Rattle.run_model.specs.Rights.{held_count};
 ghost use Rattle.causal_store.specs.Stores.{IsShort, IsStore};
-ghost use Rattle.replica_core.specs.Tables.{HasNoUpper};
 
 use crate::replica::Replica;
 use crate::spending::is_bounded;
@@ -25,7 +24,7 @@ impl Replica {
 
     /// Adds an atom that is true.
     fn push_truth(&self, spec: &Spec, truths: &mut List<Atom>, atom: &Atom) -> Result<(), NoMemory>
-        requires { IsStore spec.now (length (known_to self.now)) self.now.store }
+        requires { IsStore (length (known_to self.now)) self.now.store }
         ensures { OnOk result (truths.new ≡ truths.old ++ filter (is_true_now spec.now self.now) (atom.now ∷ [])) }
     {
         let _so_far = truths.as_slice();
@@ -39,7 +38,7 @@ impl Replica {
     /// The atoms that are true.
     fn truths(&self, alloc: Global, spec: &Spec) -> Result<List<Atom>, NoMemory>
         requires well_formed { IsWellFormed spec.now }
-        requires own { IsStore spec.now (length (known_to self.now)) self.now.store }
+        requires own { IsStore (length (known_to self.now)) self.now.store }
         ensures { IfOk result (λ l. l ≡ filter (is_true_now spec.now self.now) (atoms spec.now)) }
     {
         let mut truths = List::new(alloc);
@@ -52,7 +51,7 @@ impl Replica {
     /// What each cell is worth.
     fn values(&self, alloc: Global, spec: &Spec) -> Result<List<CellValue>, NoMemory>
         requires well_formed { IsWellFormed spec.now }
-        requires own { IsStore spec.now (length (known_to self.now)) self.now.store }
+        requires own { IsStore (length (known_to self.now)) self.now.store }
         requires short { IsShort self.now.store }
         ensures { IfOk result (λ l. l ≡ map (value_now spec.now self.now) (cells spec.now)) }
     {
@@ -106,7 +105,6 @@ impl Replica {
     /// What it has seen, which atoms are true by that, what each cell is worth, and what it holds.
     pub fn last(&self, alloc: Global, setup: &Setup) -> Result<Final, NoMemory>
         requires well_formed { IsWellFormed setup.now.spec }
-        requires lower { HasNoUpper setup.now.spec }
         requires own { IsReplica setup.now self.now.me self.now }
         requires room { HasRoom 0 self.now }
         requires short { IsShort self.now.store }

@@ -7,12 +7,12 @@ ghost use Rattle.spec_model.specs.declared.log.Body.TheVariants as body;
 ghost use Rattle.spec_model.specs.Fits.{InstFits, IsWellFormed};
 ghost use Rattle.run_model.specs.declared.step.Outcome.TheVariants as outcomes;
 ghost use Rattle.replica_core.specs.declared.decision.Decision.TheVariants as decision;
-ghost use Rattle.run_model.specs.Rights.{first_lacking};
+ghost use Rattle.run_model.specs.Levels.{first_lacking};
 ghost use Rattle.run_model.specs.Steps.{message_of};
-ghost use Rattle.run_model.specs.Fitting.{MessageFits, WantFits};
+ghost use Rattle.run_model.specs.Fitting.{MessageFits};
 ghost use Rattle.run_model.specs.Wants.{noted, want_less, want_of};
 ghost use Rattle.spec_model.specs.Universe.{cells};
-ghost use Rattle.replica_core.specs.Tables.{HasNoUpper, NeedFits, low_need};
+ghost use Rattle.replica_core.specs.Tables.{IsLowWant, NeedFits, low_need};
 
 use crate::decision::Decision;
 use crate::replica::Replica;
@@ -37,7 +37,7 @@ impl Replica {
         requires own { IsReplica setup.now self.now.me self.now }
         requires fits { Contains (cells setup.now.spec) cell.now }
         requires room { HasRoom 0 self.now }
-        ensures { result ≡ first_lacking (holds_of setup.now self.now) (low_need cell.now count ∷ []) }
+        ensures { result ≡ first_lacking setup.now.replicas (holds_of setup.now self.now) (low_need cell.now count ∷ []) }
     {
         let have = self.held(setup, cell);
         if u128::from(count) <= have {
@@ -59,7 +59,7 @@ impl Replica {
         requires own { IsReplica setup.now self.now.me self.now }
         requires fits { NeedFits setup.now.spec need.now }
         requires room { HasRoom 0 self.now }
-        ensures { result ≡ first_lacking (holds_of setup.now self.now) (need.now ∷ []) }
+        ensures { result ≡ first_lacking setup.now.replicas (holds_of setup.now self.now) (need.now ∷ []) }
     {
         match &need.right {
             Right::Low(cell) => match &need.amount {
@@ -76,7 +76,7 @@ impl Replica {
         requires own { IsReplica setup.now self.now.me self.now }
         requires fits { All (NeedFits setup.now.spec) needs.now }
         requires room { HasRoom 0 self.now }
-        ensures { result ≡ first_lacking (holds_of setup.now self.now) needs.now }
+        ensures { result ≡ first_lacking setup.now.replicas (holds_of setup.now self.now) needs.now }
     {
         for need in needs {
             let lacking = self.lacking(setup, need);
@@ -118,7 +118,6 @@ impl Replica {
     /// that it is short of the first need that isn't met.
     fn act_or_short(&self, alloc: Global, setup: &Setup, inst: &Inst) -> Result<Decision, NoMemory>
         requires well_formed { IsWellFormed setup.now.spec }
-        requires lower { HasNoUpper setup.now.spec }
         requires own { IsReplica setup.now self.now.me self.now }
         requires fits { InstFits setup.now.spec inst.now }
         requires room { HasRoom 1 self.now }
@@ -135,7 +134,6 @@ impl Replica {
     /// need that isn't met, else an act. Nothing of it is done before it is committed or noted.
     pub fn request(&self, alloc: Global, setup: &Setup, inst: &Inst) -> Result<Decision, NoMemory>
         requires well_formed { IsWellFormed setup.now.spec }
-        requires lower { HasNoUpper setup.now.spec }
         requires own { IsReplica setup.now self.now.me self.now }
         requires fits { InstFits setup.now.spec inst.now }
         requires room { HasRoom 1 self.now }
@@ -197,7 +195,7 @@ impl Replica {
     fn still_lacking(&self, setup: &Setup, want: &Want) -> Want
         requires well_formed { IsWellFormed setup.now.spec }
         requires own { IsReplica setup.now self.now.me self.now }
-        requires fits { WantFits setup.now.spec want.now }
+        requires fits { IsLowWant setup.now.spec want.now }
         requires room { HasRoom 0 self.now }
         ensures { result ≡ want_less (holds_of setup.now self.now) want.now }
     {
@@ -242,7 +240,7 @@ impl Replica {
         requires place { to < setup.now.replicas }
         requires room { HasRoom 0 self.now }
         ensures message { IfOk result (λ m. m ≡ message_of setup.now (known_to self.now) self.now.me to number stamp (standing_of 0 [] self.now)) }
-        ensures fits { IfOk result (MessageFits setup.now.spec setup.now.replicas to) }
+        ensures fits { IfOk result (MessageFits setup.now to) }
     {
         let items = next_items(alloc, self.store.log(self.me), self.known_by(to))?;
         let wants = self.all_lacking(alloc, setup)?;

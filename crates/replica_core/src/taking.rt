@@ -3,13 +3,13 @@
 ghost use Rattle.std.specs.Prelude.{◌≡◌, ◌<◌, ◌++◌, ◌∷◌, [], List, length, slice_set, slice_index_or, Contains};
 ghost use Rattle.spec_model.specs.Fits.{IsWellFormed};
 ghost use Rattle.run_model.specs.Fitting.{MessageFits, WantFits};
-ghost use Rattle.run_model.specs.Rights.{is_met};
+ghost use Rattle.run_model.specs.Levels.{is_met};
 ghost use Rattle.spec_model.specs.declared.log.LogItem.{LogItem as ItemOf};
 ghost use Rattle.spec_model.specs.Universe.{cells};
 ghost use Rattle.run_model.specs.declared.step.Outcome.TheVariants as outcomes;
 ghost use Rattle.replica_core.specs.declared.decision.Taken.{Taken as TakenOf};
 ghost use Rattle.run_model.specs.declared.message.Message.{Message as MessageOf};
-ghost use Rattle.replica_core.specs.Tables.{low_need};
+ghost use Rattle.replica_core.specs.Tables.{IsLowWant, low_need};
 ghost use Rattle.run_model.specs.Wants.{need_of, still_wanted};
 ghost use Rattle.run_model.specs.Worlds.{joined as joined_with};
 
@@ -50,9 +50,9 @@ impl Replica {
 
     /// Applies the next items of another log.
     pub(crate) fn learn(&mut self, spec: &Spec, items: &[LogItem])
-        requires store { CanLearn spec.now self.old items.now }
+        requires store { CanLearn self.old items.now }
         requires ready { (more : List ItemOf) × IsReadyFor self.old (items.now ++ more) }
-        ensures learned { HasLearned spec.now items.now self.old self.new }
+        ensures learned { HasLearned items.now self.old self.new }
         ensures ready { (more : List ItemOf) → IsReadyFor self.old (items.now ++ more) → IsReadyFor self.new more }
     {
         for item in items {
@@ -66,7 +66,7 @@ impl Replica {
         requires own { IsReplica setup.now self.now.me self.now }
         requires fits { Contains (cells setup.now.spec) cell.now }
         requires room { HasRoom 0 self.now }
-        ensures { result ≡ is_met (holds_of setup.now self.now) (low_need cell.now count) }
+        ensures { result ≡ is_met setup.now.replicas (holds_of setup.now self.now) (low_need cell.now count) }
     {
         let have = self.held(setup, cell);
         u128::from(count) <= have
@@ -76,9 +76,9 @@ impl Replica {
     fn is_met(&self, setup: &Setup, want: &Want) -> bool
         requires well_formed { IsWellFormed setup.now.spec }
         requires own { IsReplica setup.now self.now.me self.now }
-        requires fits { WantFits setup.now.spec want.now }
+        requires fits { IsLowWant setup.now.spec want.now }
         requires room { HasRoom 0 self.now }
-        ensures { result ≡ is_met (holds_of setup.now self.now) (need_of want.now) }
+        ensures { result ≡ is_met setup.now.replicas (holds_of setup.now self.now) (need_of want.now) }
     {
         match want.right {
             Right::Low(cell) => match want.ask {
@@ -93,10 +93,10 @@ impl Replica {
     fn keep_unmet(&mut self, setup: &Setup, want: &Want)
         requires well_formed { IsWellFormed setup.now.spec }
         requires own { IsReplica setup.now self.old.me self.old }
-        requires fits { WantFits setup.now.spec want.now }
+        requires fits { WantFits setup.now want.now }
         requires room { HasRoom 0 self.old }
         requires few { length self.old.wants < 8 }
-        ensures { self.new ≡ record self.old { wants = self.old.wants ++ still_wanted (holds_of setup.now self.old) (want.now ∷ []) } }
+        ensures { self.new ≡ record self.old { wants = self.old.wants ++ still_wanted setup.now.replicas (holds_of setup.now self.old) (want.now ∷ []) } }
     {
         if !self.is_met(setup, want) {
             self.wants.put_last(want);
@@ -108,7 +108,7 @@ impl Replica {
         requires well_formed { IsWellFormed setup.now.spec }
         requires own { IsReplica setup.now self.old.me self.old }
         requires room { HasRoom 0 self.old }
-        ensures { self.new ≡ record self.old { wants = still_wanted (holds_of setup.now self.old) self.old.wants } }
+        ensures { self.new ≡ record self.old { wants = still_wanted setup.now.replicas (holds_of setup.now self.old) self.old.wants } }
     {
         for _k in 0..self.wants.len() {
             let want = self.wants.take_first();
@@ -144,10 +144,10 @@ impl Replica {
     fn commit_heeded(&mut self, setup: &Setup, from: u32, cut: &Cut, taken: &Taken)
         requires well_formed { IsWellFormed setup.now.spec }
         requires own { IsReplica setup.now self.old.me self.old }
-        requires decided { (m : MessageOf) × (m.from ≡ from) × (m.cut ≡ cut.now) × MessageFits setup.now.spec setup.now.replicas self.old.me m × IsTaken setup.now m self.old taken.now }
+        requires decided { (m : MessageOf) × (m.from ≡ from) × (m.cut ≡ cut.now) × MessageFits setup.now self.old.me m × IsTaken setup.now m self.old taken.now }
         requires room { HasRoom 24 self.old }
         requires ready { IsReadyFor self.old taken.now.batch.items }
-        ensures { (m : MessageOf) → m.from ≡ from → m.cut ≡ cut.now → MessageFits setup.now.spec setup.now.replicas self.old.me m → IsTaken setup.now m self.old taken.now → HasTaken setup.now m self.old (outcomes.Took m.number taken.now.applied taken.now.accepted taken.now.gave) self.new }
+        ensures { (m : MessageOf) → m.from ≡ from → m.cut ≡ cut.now → MessageFits setup.now self.old.me m → IsTaken setup.now m self.old taken.now → HasTaken setup.now m self.old (outcomes.Took m.number taken.now.applied taken.now.accepted taken.now.gave) self.new }
     {
         let (applied, own) = taken
             .batch

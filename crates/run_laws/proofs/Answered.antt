@@ -19,7 +19,7 @@ use Rattle.run_model.specs.declared.step.Ask.TheVariants as asks
 use Rattle.run_model.specs.declared.step.Outcome.{Outcome}
 use Rattle.run_model.specs.declared.step.Outcome.TheVariants as outcomes
 use Rattle.run_model.specs.Logs.{Logs}
-use Rattle.run_model.specs.Rights.{first_lacking}
+use Rattle.run_model.specs.Levels.{first_lacking}
 use Rattle.run_model.specs.Wants.{need_of, noted, piece_for, want_of}
 use Rattle.run_model.specs.Worlds.{Standing, Sending, logged, logged_all, holding, joined, sent_to, truths_seen}
 use Rattle.run_model.specs.Steps.{Requested, Takes, TakesSent, Answers, cut_after, accepts_of, given, answered, dropped, received, message_of}
@@ -97,7 +97,7 @@ pub record IsAnswered (setup : Setup) (logs : Logs) (me : ℕ) (heard : Option S
 -- a request is answered
 pub does_some : (setup : Setup) (logs : Logs) (me stamp : ℕ) (inst : Inst) (old : Standing) → IsAnswered setup logs me None stamp (asks.Do inst) old
 does_some setup logs me stamp inst old =
-    let r = requested_some me inst (broken_by setup.spec (truths_seen setup logs old) inst) (first_lacking (holding setup logs me old) (needs setup inst)) old in
+    let r = requested_some me inst (broken_by setup.spec (truths_seen setup logs old) inst) (first_lacking setup.replicas (holding setup logs me old) (needs setup (truths_seen setup logs old) inst)) old in
     record { applied = []; outcome = r.0; after = r.1; answers = (refl, r.2); more = []; is = r.3 ∙ sym (append-nil old.sendings); counted = λ to. refl; sent = tt }
 
 -- a list of one, or none

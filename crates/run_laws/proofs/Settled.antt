@@ -16,7 +16,7 @@ use Rattle.run_model.specs.declared.step.Outcome.{Outcome}
 use Rattle.run_model.specs.declared.step.Outcome.TheVariants as outcomes
 use Rattle.run_model.specs.declared.step.StepEntry.{StepEntry}
 use Rattle.run_model.specs.Logs.{Logs, with_item}
-use Rattle.run_model.specs.Rights.{first_lacking}
+use Rattle.run_model.specs.Levels.{first_lacking}
 use Rattle.run_model.specs.Worlds.{Standing, Sending, World, logs_of, holding, truths_seen}
 use Rattle.run_model.specs.Steps.{Requested, Takes, TakesSent, Answers, Steps, AreReady, IsStuck, AreAdmitted, cut_after, accepts_of, answered, Hears, links_of}
 use Rattle.run_model.specs.Runs.{WorldSteps}
@@ -76,7 +76,7 @@ takes_sent_one setup logs me (Some message) a b old o p x y h k = takes_one setu
 -- an answer is settled by what is asked and what is in hand
 answers_one : (setup : Setup) (logs : Logs) (me : ℕ) (heard : Option Sending) (a b : List LogItem) (stamp : ℕ) (ask : Ask) (old : Standing) (o p : Outcome) (x y : Standing)
     → Answers setup logs me heard a stamp ask old o x → Answers setup logs me heard b stamp ask old p y → (o ≡ p) × (x ≡ y)
-answers_one setup logs me None a b stamp (asks.Do inst) old o p x y h k = requested_one me inst (broken_by setup.spec (truths_seen setup logs old) inst) (first_lacking (holding setup logs me old) (needs setup inst)) old o p x y h.1 k.1
+answers_one setup logs me None a b stamp (asks.Do inst) old o p x y h k = requested_one me inst (broken_by setup.spec (truths_seen setup logs old) inst) (first_lacking setup.replicas (holding setup logs me old) (needs setup (truths_seen setup logs old) inst)) old o p x y h.1 k.1
 answers_one setup logs me None a b stamp (asks.Send to (Some number)) old o p x y h k = (h.1.outcome_is ∙ sym k.1.outcome_is, h.1.becomes ∙ sym k.1.becomes)
 answers_one setup logs me None a b stamp (asks.Send to None) old o p x y h k = absurd h
 answers_one setup logs me None a b stamp (asks.Take from number) old o p x y h k = absurd h

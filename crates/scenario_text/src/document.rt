@@ -13,14 +13,14 @@ pub struct StopLine {
 }
 
 /// What a client asks of its replica.
-#[derive(Clone, Copy, Debug)]
+#[derive(Clone, Copy)]
 pub struct ClientAsk {
     pub client: u32,
     pub ask: Ask,
 }
 
 /// The work of a run.
-#[derive(Debug, Drop)]
+#[derive(Drop)]
 pub enum Work {
     /// A schedule, whose lines are taken one after the other.
     Schedule(List<Order>),
@@ -34,7 +34,7 @@ pub enum Work {
 }
 
 /// A specification with a run of it.
-#[derive(Debug, Drop)]
+#[derive(Drop)]
 pub struct Document {
     pub spec: Spec,
     /// How many replicas there are: 1 to 8.

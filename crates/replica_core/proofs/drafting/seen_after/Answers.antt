@@ -1,13 +1,13 @@
 use Rattle.std.proofs.Common.{◌+◌, ℕ, List, length, drop, sym, ap, subst, ◌∙◌, arith, length-set}
 use Rattle.spec_model.specs.declared.log.LogItem.{LogItem}
-use Rattle.run_model.specs.Fitting.{ItemFits}
+use Rattle.run_model.specs.Fitting.{IsPlaced}
 use Rattle.run_model.specs.Steps.{cut_after}
 use Rattle.replica_core.proofs.Lists.{drop_at_item}
 use Rattle.replica_core.proofs.drafting.seen_after.Goals as goal
 
 pub set-requires : goal.set-requires
 set-requires c =
-    let fits = subst (ItemFits c.requires.fits.0 c.args.replicas) (sym c.item-item.is) (c.requires.fits.1 c.loop-item.item-index c.item-item.result c.loop-item-test.true) in
+    let fits = subst (IsPlaced c.args.replicas) (sym c.item-item.is) (c.requires.fits c.loop-item.item-index c.item-item.result c.loop-item-test.true) in
     omega (arith, fits.origin, c.loop-item.invariant.whole)
 
 pub loop-item-preserved : goal.loop-item-preserved

@@ -4,4 +4,4 @@ use Rattle.replica_core.specs.Heeded.{AreFitting}
 use Rattle.replica_core.proofs.fitting.fitting_wants.Given as goal
 
 abbrev pub invariant-loop-want : goal.invariant-loop-want
-invariant-loop-want l = (rest : List Want) → AreFitting l.spec (drop l.want-index l.wants) rest → AreFitting l.spec l.wants (l.fitting ++ rest)
+invariant-loop-want l = (rest : List Want) → AreFitting l.setup (drop l.want-index l.wants) rest → AreFitting l.setup l.wants (l.fitting ++ rest)

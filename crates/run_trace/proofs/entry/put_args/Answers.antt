@@ -1,4 +1,4 @@
-use Rattle.std.proofs.Common.{◌≡◌, sym, ◌∙◌}
+use Rattle.std.proofs.Common.{sym, ◌∙◌}
 use Rattle.run_trace.proofs.Arguments.{args_ended, args_more}
 use Rattle.run_trace.proofs.entry.put_args.Goals as goal
 

@@ -1,5 +1,4 @@
-use Rattle.std.proofs.Common.{◌≡◌, sym, ◌∙◌, arith}
-use Rattle.run_trace.proofs.Gathered.{in_order_at, apart_at, merged_at, merged_none}
+use Rattle.run_trace.proofs.Gathered.{in_order_at, apart_at, merged_at}
 use Rattle.run_trace.proofs.order.merge.Goals as goal
 
 pub merge_two-requires-clause-b_in_order : goal.merge_two-requires-clause-b_in_order

@@ -1,7 +1,5 @@
-use Rattle.std.proofs.Common.{◌≡◌, ◌⊎◌, inl, inr, ◌<◌, ◌++◌, ◌∷◌, [], length, sym, ap, ◌∙◌, arith, subst}
+use Rattle.std.proofs.Common.{◌≡◌, ◌⊎◌, inl, inr, length, sym, ◌∙◌, arith}
 use Rattle.std.proofs.lemmas.Bool.{eqb-true, eqb-false}
-use Rattle.run_model.specs.Runs.{InOrder}
-use Rattle.run_trace.specs.Merging.{Merges}
 use Rattle.run_trace.proofs.Joined.{took_left, took_right, joined}
 use Rattle.run_trace.proofs.order.merge_two.Goals as goal
 use Rattle.run_trace.proofs.order.merge_two.Goals.{then-joining-test+else-not-is_empty, else-joining-test}

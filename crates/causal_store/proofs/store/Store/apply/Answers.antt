@@ -30,7 +30,7 @@ returns-clause-own c =
     let item = c.args.item.now in
     let lt : item.origin < length logs = omega (arith, c.requires.fits.origin, length-map logs (λ (l : Vec LogItem). l.items)) in
     let pushed = pushed_on logs item.origin c.index_mut.result.now c.push_within.new.log item (log_there logs item.origin c.index_mut.result.now lt c.index_mut.ensures.value) c.push_within.ensures.items in
-    one_more c.args.spec.now (length (logs_in c.args.self.now)) c.args.self.now _ item c.requires.own c.requires.fits c.requires.next pushed c.set.ensures
+    one_more (length (logs_in c.args.self.now)) c.args.self.now _ item c.requires.own c.requires.fits c.requires.next pushed c.set.ensures
 
 pub returns-clause-order : goal.returns-clause-order
 returns-clause-order c =

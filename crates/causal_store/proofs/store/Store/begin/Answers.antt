@@ -3,7 +3,7 @@ use Rattle.std.specs.Global.{Vec}
 use Rattle.std.specs.List.{AllByRecursion}
 use Rattle.std.proofs.lemmas.List.{length-replicate}
 use Rattle.spec_model.specs.declared.log.LogItem.{LogItem}
-use Rattle.run_model.specs.Fitting.{ItemFits}
+use Rattle.run_model.specs.Fitting.{IsPlaced}
 use Rattle.causal_store.proofs.Agreed.{applied_none}
 use Rattle.causal_store.proofs.Stored.{no_counts, no_items_fit}
 use Rattle.causal_store.proofs.store.Store.begin.Goals as goal
@@ -17,15 +17,15 @@ returns-clause-own c =
     let n : ℕ = c.args.replicas in
     let all : c.loop-i._i ≡ n = omega (arith, c.loop-i-test.false, c.loop-i.auto._i-end) in
     let logs = logs_are n c.loop-i._i c.loop-i.logs.items c.loop-i.invariant.0 all in
-    λ spec. record {
+    record {
       whole = ap length logs ∙ length-replicate n [];
       few = omega (arith, c.requires);
       counts = c.loop-i.invariant.1 ∙ ap (λ k. replicate k 0) all ∙ no_counts n ∙ sym (ap (map (λ (log : List LogItem). length log)) logs);
-      fits = subst (AllByRecursion (AllByRecursion (ItemFits spec n))) (sym logs) (no_items_fit (ItemFits spec n) n);
+      fits = subst (AllByRecursion (AllByRecursion (IsPlaced n))) (sym logs) (no_items_fit (IsPlaced n) n);
     }
 
 pub returns-clause-applied : goal.returns-clause-applied
 returns-clause-applied c =
     let n : ℕ = c.args.replicas in
     let all : c.loop-i._i ≡ n = omega (arith, c.loop-i-test.false, c.loop-i.auto._i-end) in
-    λ spec. applied_none spec n _ (returns-clause-own c spec) (logs_are n c.loop-i._i c.loop-i.logs.items c.loop-i.invariant.0 all)
+    λ spec. applied_none spec n _ (returns-clause-own c) (logs_are n c.loop-i._i c.loop-i.logs.items c.loop-i.invariant.0 all)

@@ -3,7 +3,7 @@ use Rattle.std.specs.Global.{Vec}
 use Rattle.std.specs.Prelude.{slice_index, All}
 use Rattle.std.specs.List.{AllByRecursion}
 use Rattle.std.proofs.lemmas.List.{length-map}
-use Rattle.run_model.specs.Fitting.{ItemFits}
+use Rattle.run_model.specs.Fitting.{IsPlaced}
 use Rattle.spec_model.specs.declared.log.LogItem.{LogItem}
 use Rattle.causal_store.specs.Folds.{all_items, known_by}
 use Rattle.causal_store.specs.Stores.{logs_in}
@@ -37,6 +37,6 @@ join_setters-requires c =
     let log : Vec LogItem = c.log-item.result in
     let lt : c.loop-log.log-index < length logs = omega (arith, c.loop-log-test.true, ap length c.deref-log-items.ensures.value) in
     let there : log ≡ get_or logs c.loop-log.log-index log = c.log-item.is ∙ ap (λ (ls : List (Vec LogItem)). get_or ls c.loop-log.log-index log) c.deref-log-items.ensures.value in
-    let fits = of_log (AllByRecursion (ItemFits c.args.spec.now n)) logs c.loop-log.log-index log lt there c.requires.fits in
+    let fits = of_log (AllByRecursion (IsPlaced n)) logs c.loop-log.log-index log lt there c.requires.fits in
     let long : n ≡ length c.loop-log.past = length-map logs (λ (l : Vec LogItem). l.items) ∙ sym c.loop-log.invariant.long in
-    subst (All (λ (i : LogItem). length i.deps ≤ length c.loop-log.past)) (sym c.as_slice.ensures.value) (each_short c.args.spec.now n (length c.loop-log.past) log.items long fits)
+    subst (All (λ (i : LogItem). length i.deps ≤ length c.loop-log.past)) (sym c.as_slice.ensures.value) (each_short n (length c.loop-log.past) log.items long fits)

@@ -1,4 +1,4 @@
-use Rattle.std.proofs.Common.{◌≡◌, ◌+◌, ◌*◌, ◌^◌, ◌++◌, ◌∷◌, [], List, get_or, length, sym, ap, subst, ◌∙◌, arith}
+use Rattle.std.proofs.Common.{◌≡◌, ◌+◌, ◌*◌, ◌^◌, ◌++◌, ◌∷◌, [], List, get_or, length, ap, ◌∙◌, arith}
 use Rattle.std.specs.Prelude.{slice_set, Some, Option}
 use Rattle.std.specs.Option.{option_map_or}
 use Rattle.spec_model.specs.declared.log.Body.TheVariants as body
@@ -6,7 +6,6 @@ use Rattle.spec_model.specs.declared.log.LogItem.{LogItem}
 use Rattle.spec_model.specs.declared.right.Right.TheVariants as right
 use Rattle.run_model.specs.Logs.{item_at, log_at}
 use Rattle.run_model.specs.Rights.{out_gives}
-use Rattle.run_model.specs.Fitting.{BodyFits}
 use Rattle.replica_core.specs.Replicas.{known_to, own_log}
 use Rattle.replica_core.proofs.Logged.{logs_one}
 use Rattle.replica_core.proofs.Next.{log_inside, item_there, item_fits}
@@ -19,10 +18,10 @@ pub gain_out-requires-clause-fits : goal.gain_out-requires-clause-fits
 gain_out-requires-clause-fits c =
     let known = known_to c.args.self.now in
     let there : item_at known c.args.from c.args.index ≡ Some c.index-log-index.result = item_there (log_at known c.args.from) c.args.index c.index-log-index.result c.requires.known.1 (c.index-log-index.is ∙ ap (λ (l : List LogItem). get_or l c.args.index c.index-log-index.result) c.log.ensures) in
-    (c.args.setup.now.replicas, item_fits c.args.setup.now c.args.self.now c.args.from c.args.index c.index-log-index.result c.requires.own there)
+    item_fits c.args.setup.now c.args.self.now c.args.from c.args.index c.index-log-index.result c.requires.own there
 
 pub append-requires-clause-next : goal.append-requires-clause-next
-append-requires-clause-next c = (body.Accept c.args.from c.args.index, c.requires.next, subst (λ n. BodyFits c.args.setup.now.spec n (body.Accept c.args.from c.args.index)) (sym c.requires.own.store.whole) c.requires.fits)
+append-requires-clause-next c = (body.Accept c.args.from c.args.index, c.requires.next)
 
 pub returns-clause-logged : goal.returns-clause-logged
 returns-clause-logged c =
@@ -36,6 +35,8 @@ returns-clause-logged c =
       logs = c.append.ensures.logs ∙ ap (λ (i : LogItem). slice_set known old.me (own_log old ++ i ∷ [])) c.requires.next;
       store = c.append.ensures.store;
       known = c.requires.known;
+      fits = c.requires.fits;
+      room = c.requires.room;
       long = c.gain_out.ensures.raises.long;
       at = λ i cell is.
           let up = c.gain_out.ensures.raises.at i cell is in

@@ -7,7 +7,7 @@ use Rattle.replica_core.proofs.Logged.{logs_one}
 use Rattle.replica_core.proofs.replica.Replica.act.Goals as goal
 
 pub append-requires-clause-next : goal.append-requires-clause-next
-append-requires-clause-next c = (body.Act c.args.inst.now, c.requires.next, c.requires.fits)
+append-requires-clause-next c = (body.Act c.args.inst.now, c.requires.next)
 
 pub returns-clause-logged : goal.returns-clause-logged
 returns-clause-logged c =
@@ -18,6 +18,8 @@ returns-clause-logged c =
       logs = c.append.ensures.logs ∙ ap (λ (i : LogItem). slice_set (known_to old) old.me (own_log old ++ i ∷ [])) c.requires.next;
       store = c.append.ensures.store;
       known = tt;
+      fits = c.requires.fits;
+      room = c.requires.room;
       long = c.spend.ensures.spends.long;
       at = λ i cell is. c.spend.ensures.spends.at i cell is;
       enough = c.requires.held;

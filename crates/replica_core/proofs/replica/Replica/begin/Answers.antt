@@ -6,7 +6,8 @@ pub returns-clause-own : goal.returns-clause-own
 returns-clause-own c = first_replica c.args.setup.now c.args.me _ (record {
   me_is = refl;
   within = c.requires.place;
-  store = c.in_ok-begin.ensures.own c.args.setup.now.spec;
+  alone = c.requires.alone;
+  store = c.in_ok-begin.ensures.own;
   empty = c.in_ok-begin.ensures.empty;
   lows = c.in_ok-first_rights.ensures;
   wants = c.in_ok-begin-2.ensures;
@@ -17,7 +18,8 @@ pub returns-clause-stands : goal.returns-clause-stands
 returns-clause-stands c = first_stands c.args.setup.now c.args.me _ (record {
   me_is = refl;
   within = c.requires.place;
-  store = c.in_ok-begin.ensures.own c.args.setup.now.spec;
+  alone = c.requires.alone;
+  store = c.in_ok-begin.ensures.own;
   empty = c.in_ok-begin.ensures.empty;
   lows = c.in_ok-first_rights.ensures;
   wants = c.in_ok-begin-2.ensures;

@@ -17,6 +17,6 @@ returns-clause-fits c =
     let items : heeded.items ≡ take c.heeded_count.result (take 16 message.items) = c.in_ok-from_slice.ensures ∙ c.split_at.ensures.front ∙ ap (take c.heeded_count.result) front in
     heeded_fits c.args.setup.now c.args.self.now message heeded c.requires.addressed (record {
       items = subst (AreHeeded setup r message.from (take 16 message.items)) (sym items) (subst (λ (l : List LogItem). AreHeeded setup r message.from l (take c.heeded_count.result l)) front c.heeded_count.ensures.heeded);
-      wants = subst (λ (l : List Want). AreFitting setup.spec l heeded.wants) wants c.in_ok-fitting_wants.ensures;
+      wants = subst (λ (l : List Want). AreFitting setup l heeded.wants) wants c.in_ok-fitting_wants.ensures;
       all_else = refl;
     })

@@ -14,4 +14,4 @@ returns c =
     ap (λ (k : List ℕ). let f : Final = record { cut = k; truths = c.in_ok-truths.field-0; values = c.in_ok-values.field-0; holds = c.in_ok-all_held.field-0 } in f) c.cut.ensures
     ∙ ap (λ (t : List Atom). let f : Final = record { cut = cut_in r.store; truths = t; values = c.in_ok-values.field-0; holds = c.in_ok-all_held.field-0 } in f) c.in_ok-truths.ensures
     ∙ ap (λ (v : List CellValue). let f : Final = record { cut = cut_in r.store; truths = truths_now setup r; values = v; holds = c.in_ok-all_held.field-0 } in f) c.in_ok-values.ensures
-    ∙ ap (λ (h : List Hold). let f : Final = record { cut = cut_in r.store; truths = truths_now setup r; values = values_now setup r; holds = h } in f) (c.in_ok-all_held.ensures ∙ lows_alone setup r c.requires.lower)
+    ∙ ap (λ (h : List Hold). let f : Final = record { cut = cut_in r.store; truths = truths_now setup r; values = values_now setup r; holds = h } in f) (c.in_ok-all_held.ensures ∙ lows_alone setup r c.requires.own.alone)

@@ -9,7 +9,7 @@ pub act-requires-clause-next : goal.act-requires-clause-next
 act-requires-clause-next c = c.requires.next.is ∙ ap (item_of c.args.self.now) c.in-Act.is
 
 pub act-requires-clause-fits : goal.act-requires-clause-fits
-act-requires-clause-fits c = subst (BodyFits c.args.setup.now.spec c.args.setup.now.replicas) c.in-Act.is c.requires.next.fits
+act-requires-clause-fits c = subst (BodyFits c.args.setup.now) c.in-Act.is c.requires.next.fits
 
 pub act-requires-clause-held : goal.act-requires-clause-held
 act-requires-clause-held c = loses_as c.args.setup.now (known_to c.args.self.now) c.args.self.now.me (standing_of 0 [] c.args.self.now) c.args.item.now _ c.in-Act.is c.requires.next
@@ -21,7 +21,7 @@ pub accept-requires-clause-next : goal.accept-requires-clause-next
 accept-requires-clause-next c = c.requires.next.is ∙ ap (item_of c.args.self.now) c.in-Accept.is
 
 pub accept-requires-clause-fits : goal.accept-requires-clause-fits
-accept-requires-clause-fits c = subst (BodyFits c.args.setup.now.spec c.args.setup.now.replicas) c.in-Accept.is c.requires.next.fits
+accept-requires-clause-fits c = subst (BodyFits c.args.setup.now) c.in-Accept.is c.requires.next.fits
 
 pub accept-requires-clause-known : goal.accept-requires-clause-known
 accept-requires-clause-known c = subst (IsKnown (known_to c.args.self.now) c.args.self.now.me) c.in-Accept.is c.requires.next.known
@@ -33,7 +33,7 @@ pub give-requires-clause-next : goal.give-requires-clause-next
 give-requires-clause-next c = c.requires.next.is ∙ ap (item_of c.args.self.now) c.in-Out.is
 
 pub give-requires-clause-fits : goal.give-requires-clause-fits
-give-requires-clause-fits c = subst (BodyFits c.args.setup.now.spec c.args.setup.now.replicas) c.in-Out.is c.requires.next.fits
+give-requires-clause-fits c = subst (BodyFits c.args.setup.now) c.in-Out.is c.requires.next.fits
 
 pub give-requires-clause-held : goal.give-requires-clause-held
 give-requires-clause-held c = loses_as c.args.setup.now (known_to c.args.self.now) c.args.self.now.me (standing_of 0 [] c.args.self.now) c.args.item.now _ c.in-Out.is c.requires.next

@@ -1,4 +1,7 @@
-use Rattle.std.proofs.Common.{◌≡◌, ◌++◌, List, length, ap, ◌∙◌, subst, arith}
+use Rattle.std.proofs.Common.{◌≡◌, ◌++◌, List, length, sym, ap, ◌∙◌, subst, arith}
+use Rattle.std.specs.Prelude.{All}
+use Rattle.effect_model.proofs.Sizes.{all_at}
+use Rattle.run_model.specs.Fitting.{WantFits}
 use Rattle.spec_model.specs.declared.right.Want.{Want}
 use Rattle.spec_model.specs.declared.log.LogItem.{LogItem}
 use Rattle.replica_core.specs.Drafts.{HasDraftedAnswers}
@@ -18,6 +21,11 @@ pub answer_all-requires-clause-accepted : goal.answer_all-requires-clause-accept
 answer_all-requires-clause-accepted c =
     let h : Starts c.args.setup.now c.args.message.now c.args.self.now c.in_ok-draft.draft = record { own = c.requires.own; fits = c.requires.fits; admitted = c.in_ok-draft.ensures.admitted; none = c.in_ok-draft.ensures.none; cut = c.in_ok-draft.ensures.cut; from = c.in_ok-draft.ensures.from } in
     accepted_draft c.args.setup.now c.args.message.now c.args.self.now c.in_ok-draft.draft c.accept_all.new.draft h c.in_ok-accept_all.ensures.drafted
+
+pub answer_all-requires-clause-fits : goal.answer_all-requires-clause-fits
+answer_all-requires-clause-fits c =
+    let setup = c.args.setup.now in
+    subst (All (WantFits setup)) (sym c.as_slice.ensures.value) (λ k w lt. all_at (WantFits setup) c.args.message.now.wants k w c.requires.fits.wants lt)
 
 pub answer_all-requires-clause-few : goal.answer_all-requires-clause-few
 answer_all-requires-clause-few c =
