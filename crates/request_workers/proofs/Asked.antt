@@ -12,7 +12,7 @@ use Rattle.run_model.specs.declared.step.Order.{Order}
 use Rattle.run_model.specs.declared.step.StepEntry.{StepEntry}
 use Rattle.run_model.specs.Runs.{asks_in, asks_of, entries_at}
 use Rattle.run_model.proofs.Lists.{each_take}
-use Rattle.replica_core.specs.Laws.{AsksFit, DoFits}
+use Rattle.run_model.specs.Fitting.{AsksFit, DoFits}
 use Rattle.scenario_text.specs.WellFormed.{OrderFits, ScheduleFits, StepFits}
 use Rattle.request_workers.specs.declared.node.Node.{Node}
 use Rattle.request_workers.specs.Nodes.{AreRunning}
@@ -46,8 +46,11 @@ all_asked P (e ∷ entries) each = (first (e.replica == e.replica) (eq-eqb e.rep
     behind me true all = all.1
     behind me false all = all
 
--- so what the entries of a run ask for fits
+-- so what entries ask for fits, where each replica's ask for what these lines do
+pub asked_fit : (setup : Setup) (done : List Order) (entries : List StepEntry) → AllByRecursion (OrderFits setup.spec setup.replicas) done → ((me : ℕ) → asks_in (entries_at me entries) ≡ asks_of me done) → AsksFit setup.spec entries
+asked_fit setup done entries lines asked =
+    all_asked (DoFits setup.spec) entries (λ me. subst (AllByRecursion (DoFits setup.spec)) (sym (asked me)) (lines_fit setup.spec setup.replicas me done lines))
+
+-- and so do the entries of a run
 pub asks_fit : (setup : Setup) (schedule : List Order) (at : ℕ) (nodes : List Node) (links : List (List Message)) → ScheduleFits setup.spec setup.replicas schedule → (h : AreRunning setup (take at schedule) nodes links) → AsksFit setup.spec h.entries
-asks_fit setup schedule at nodes links fits h =
-    let lines = each_take (OrderFits setup.spec setup.replicas) at schedule fits.orders_fit in
-    all_asked (DoFits setup.spec) h.entries (λ me. subst (AllByRecursion (DoFits setup.spec)) (sym (h.asked me)) (lines_fit setup.spec setup.replicas me (take at schedule) lines))
+asks_fit setup schedule at nodes links fits h = asked_fit setup (take at schedule) h.entries (each_take (OrderFits setup.spec setup.replicas) at schedule fits.orders_fit) h.asked

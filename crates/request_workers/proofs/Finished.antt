@@ -21,16 +21,20 @@ use Rattle.run_model.specs.Logs.{Logs, log_at}
 use Rattle.run_model.specs.Rights.{held_count}
 use Rattle.run_model.specs.Worlds.{Standing, World, logs_of}
 use Rattle.run_model.specs.Runs.{InOrder, asks_in, entries_at}
-use Rattle.run_model.specs.Balance.{RunsAreSound}
+use Rattle.run_model.specs.Fitting.{DoFits}
+use Rattle.run_model.specs.Sound.{IsSettled, RunsAreSound}
 use Rattle.run_model.specs.Finals.{final_of, lasts_from}
 use Rattle.run_model.specs.Locals.{FinalsAgree, Local, RunsInOrder}
 use Rattle.run_model.proofs.WorldLogs.{logs_there}
-use Rattle.run_trace.specs.Merging.{AreOf}
+use Rattle.run_model.proofs.Lists.{each_take}
+use Rattle.run_trace.specs.Merging.{AreOf, IsMerged}
 use Rattle.causal_store.specs.Stores.{IsShort, logs_in}
-use Rattle.replica_core.specs.Laws.{FirstsKeepBounds, HoldsAreSmall}
+use Rattle.replica_core.specs.Laws.{HoldsAreSmall}
 use Rattle.replica_core.specs.Replicas.{HasRoom, IsReplica, known_to, own_log, standing_of}
 use Rattle.request_workers.specs.declared.node.Node.{Node}
 use Rattle.request_workers.specs.Histories.{AreLegal}
+use Rattle.scenario_text.specs.WellFormed.{ScheduleFits}
+use Rattle.request_workers.proofs.Asked.{asked_fit}
 use Rattle.request_workers.proofs.Linked.{get_map}
 use Rattle.request_workers.specs.Nodes.{AreDone, IsNode, history_of, local_of, sendings_at}
 
@@ -118,12 +122,19 @@ lasts_same setup logs k (node ∷ nodes) (p ∷ w) long same =
 
 -- ---- one legal run
 
-pub legal : (setup : Setup) (schedule : List Order) (nodes : List Node) (histories : List History) → RunsAreSound → RunsInOrder → FinalsAgree → FirstsKeepBounds → IsWellFormed setup.spec → 0 < setup.replicas
+pub legal : (setup : Setup) (schedule : List Order) (nodes : List Node) (histories : List History) → RunsAreSound → RunsInOrder → FinalsAgree → IsSettled setup → ScheduleFits setup.spec setup.replicas schedule
     → AreDone setup schedule nodes → histories ≡ map (history_of setup) nodes → AreLegal setup schedule histories
-legal setup schedule nodes histories sound order finals firsts formed some (links, h) are =
+legal setup schedule nodes histories sound order finals settled fits (links, h) are =
     let n : ℕ = setup.replicas in
     let shown : List History = map (history_of setup) nodes in
     let long : length shown ≡ n = length-map nodes (history_of setup) ∙ h.whole in
+    let below : (sorted : List StepEntry) → IsMerged shown sorted → AllByRecursion (λ e. e.replica < n) sorted = λ sorted merged. subst (λ k. AllByRecursion (λ (e : StepEntry). e.replica < k) sorted) long merged.below in
+    let same : (sorted : List StepEntry) → IsMerged shown sorted → (me : ℕ) → entries_at me sorted ≡ entries_at me h.entries = λ sorted merged me. elim (cases_lt me n) [
+      | inl lt ↦
+          let at = some_at nodes me (omega (arith, lt, h.whole)) in
+          merged.each me (history_of setup at.0) (get_map (history_of setup) nodes me at.0 at.1) ∙ (h.each me at.0 at.1).entries_are
+      | inr le ↦ entries_none n me sorted le (below sorted merged) ∙ sym (entries_none n me h.entries le h.within)
+    ] in
     subst (AreLegal setup schedule) (sym are) (record {
       world = h.world;
       whole = long;
@@ -138,20 +149,14 @@ legal setup schedule nodes histories sound order finals firsts formed some (link
             let m = mapped (history_of setup) nodes i history is in
             subst (λ (k : History). InOrder k.entries) (sym m.2) (h.each i m.0 m.1).in_order;
       };
-      legal = λ sorted merged.
-          let below : AllByRecursion (λ e. e.replica < n) sorted = subst (λ k. AllByRecursion (λ (e : StepEntry). e.replica < k) sorted) long merged.below in
-          let same : (me : ℕ) → entries_at me sorted ≡ entries_at me h.entries = λ me. elim (cases_lt me n) [
-            | inl lt ↦
-                let at = some_at nodes me (omega (arith, lt, h.whole)) in
-                merged.each me (history_of setup at.0) (get_map (history_of setup) nodes me at.0 at.1) ∙ (h.each me at.0 at.1).entries_are
-            | inr le ↦ entries_none n me sorted le below ∙ sym (entries_none n me h.entries le h.within)
-          ] in
-          record {
-            runs = order setup h.entries sorted h.world h.runs merged.in_order below same;
-            in_order = merged.in_order;
-            asked = λ me. ap asks_in (same me) ∙ h.asked me;
-          };
-      sound = λ sorted merged k w runs. sound setup (take k sorted) w some (firsts setup.spec formed) runs;
+      legal = λ sorted merged. record {
+        runs = order setup h.entries sorted h.world h.runs merged.in_order (below sorted merged) (same sorted merged);
+        in_order = merged.in_order;
+        asked = λ me. ap asks_in (same sorted merged me) ∙ h.asked me;
+      };
+      sound = λ sorted merged k w runs.
+          let asked = asked_fit setup schedule sorted fits.orders_fit (λ me. ap asks_in (same sorted merged me) ∙ h.asked me) in
+          sound setup (take k sorted) w settled (each_take (λ (e : StepEntry). DoFits setup.spec e.ask) k sorted asked) runs;
       lasts = lasts_same setup (logs_of h.world) 0 nodes h.world (h.whole ∙ sym h.world_whole) (λ i node p is at.
           let here : IsNode setup (length schedule) h.entries h.world i node = h.each i node is in
           let l : Local = local_of (sendings_at h.world i) node in
@@ -165,7 +170,7 @@ legal setup schedule nodes histories sound order finals firsts formed some (link
     some_same : (p q : Standing) → Some p ≡ Some q → p ≡ q
     some_same p q is = cc
 
-pub legal_if : (setup : Setup) (schedule : List Order) (nodes : List Node) (r : Result (List History) NoMemory) → RunsAreSound → RunsInOrder → FinalsAgree → FirstsKeepBounds → IsWellFormed setup.spec → 0 < setup.replicas
+pub legal_if : (setup : Setup) (schedule : List Order) (nodes : List Node) (r : Result (List History) NoMemory) → RunsAreSound → RunsInOrder → FinalsAgree → IsSettled setup → ScheduleFits setup.spec setup.replicas schedule
     → AreDone setup schedule nodes → IfOk r (λ histories. histories ≡ map (history_of setup) nodes) → IfOk r (λ histories. AreLegal setup schedule histories)
-legal_if setup schedule nodes (Ok histories) sound order finals firsts formed some done are = legal setup schedule nodes histories sound order finals firsts formed some done are
-legal_if setup schedule nodes (Err e) sound order finals firsts formed some done are = tt
+legal_if setup schedule nodes (Ok histories) sound order finals settled fits done are = legal setup schedule nodes histories sound order finals settled fits done are
+legal_if setup schedule nodes (Err e) sound order finals settled fits done are = tt

@@ -6,7 +6,7 @@ use Rattle.run_model.specs.declared.step.StepEntry.{StepEntry}
 use Rattle.run_model.specs.declared.history.History.{History}
 use Rattle.run_model.specs.Worlds.{World, logs_of}
 use Rattle.run_model.specs.Runs.{IsLegal}
-use Rattle.run_model.specs.Balance.{AtEachStep, IsSound}
+use Rattle.run_model.specs.Sound.{AtEachStep, IsSound}
 use Rattle.run_model.specs.Finals.{lasts_from}
 use Rattle.run_trace.specs.Merging.{AreHistories, IsMerged}
 

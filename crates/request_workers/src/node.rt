@@ -14,7 +14,7 @@ ghost use Rattle.spec_model.specs.declared.instance.Inst.{Inst as InstOf};
 ghost use Rattle.replica_core.specs.declared.decision.Decision.TheVariants as decision;
 ghost use Rattle.replica_core.specs.Decisions.{Decides};
 ghost use Rattle.replica_core.specs.Replicas.{HasAnswered, HasRoom, HasTaken, IsReplica, known_to, own_log};
-ghost use Rattle.replica_core.specs.Tables.{HasNoUpper};
+ghost use Rattle.replica_core.specs.Tables.{HasLowsAlone};
 
 use ind_base::{List, NoMemory};
 use replica_core::{Decision, Replica, breaks_change_nothing};
@@ -23,7 +23,7 @@ use spec_model::{Inst, Setup};
 use std::alloc::Global;
 
 /// A replica, the stamp of its last step, and the entries of its steps so far.
-#[derive(Debug, Drop)]
+#[derive(Drop)]
 pub(crate) struct Node {
     pub(crate) replica: Replica,
     pub(crate) stamp: u64,
@@ -52,7 +52,6 @@ fn answer(
     inst: &Inst,
 ) -> Result<Outcome, NoMemory>
     requires well_formed { IsWellFormed setup.now.spec }
-    requires lower { HasNoUpper setup.now.spec }
     requires own { IsReplica setup.now replica.old.me replica.old }
     requires fits { InstFits setup.now.spec inst.now }
     requires room { HasRoom 1 replica.old }
@@ -101,6 +100,7 @@ impl Node {
     /// A replica before its first step.
     pub(crate) fn begin(alloc: Global, setup: &Setup, me: u32) -> Result<Node, NoMemory>
         requires well_formed { IsWellFormed setup.now.spec }
+        requires alone { HasLowsAlone setup.now }
         requires place { me < setup.now.replicas }
         requires few { setup.now.replicas ≤ 16 }
         ensures { IfOk result (λ node. IsFirst setup.now me node) }
@@ -134,7 +134,6 @@ impl Node {
         inst: &Inst,
     ) -> Result<(), NoMemory>
         requires well_formed { IsWellFormed setup.now.spec }
-        requires lower { HasNoUpper setup.now.spec }
         requires can { CanStep setup.now self.old }
         requires fits { InstFits setup.now.spec inst.now }
         ensures { OnOk result (NodeSteps setup.now (asks.Do inst.now) None [] self.old self.new) }
@@ -157,7 +156,7 @@ impl Node {
         requires other { to ≢ self.old.replica.me }
         requires place { to < setup.now.replicas }
         ensures steps { IfOk result (λ m. NodeSteps setup.now (asks.Send to (Some number)) None (sending_of m ∷ []) self.old self.new) }
-        ensures fits { IfOk result (λ m. MessageFits setup.now.spec setup.now.replicas to m) }
+        ensures fits { IfOk result (λ m. MessageFits setup.now to m) }
         ensures from { IfOk result (λ m. m.from ≡ self.old.replica.me) }
         ensures to { IfOk result (λ m. m.to ≡ to) }
         ensures stamp { IfOk result (λ m. m.stamp ≡ self.new.stamp) }
@@ -202,7 +201,6 @@ impl Node {
     /// What it did, and how it stands at the end.
     pub(crate) fn finish(self, alloc: Global, setup: &Setup) -> Result<History, NoMemory>
         requires well_formed { IsWellFormed setup.now.spec }
-        requires lower { HasNoUpper setup.now.spec }
         requires own { IsReplica setup.now self.replica.me self.replica }
         requires room { HasRoom 0 self.replica }
         requires short { IsShort self.replica.store }

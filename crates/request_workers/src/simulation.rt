@@ -4,7 +4,8 @@ ghost use Rattle.std.specs.Prelude.{◌≡◌, ◌≢◌, ◌<◌, ◌≤◌, �
 ghost use Rattle.std.specs.List.{AllByRecursion};
 ghost use Rattle.spec_model.specs.Fits.{InstFits, IsWellFormed};
 ghost use Rattle.run_model.specs.declared.step.Ask.TheVariants as asks;
-ghost use Rattle.replica_core.specs.Tables.{HasNoUpper};
+ghost use Rattle.run_model.specs.Sound.{IsSettled};
+ghost use Rattle.replica_core.specs.Tables.{HasLowsAlone};
 ghost use Rattle.scenario_text.specs.Built.{StaysUp};
 ghost use Rattle.scenario_text.specs.WellFormed.{ScheduleFits};
 ghost use Rattle.request_workers.specs.Histories.{AreLegal};
@@ -13,7 +14,7 @@ ghost use Rattle.request_workers.specs.Nodes.{AreDone, AreFirst, AreRunning, Can
 use crate::links::{message_on, no_links, put};
 use crate::node::Node;
 use ind_base::{List, NoMemory};
-use replica_core::{firsts_keep_bounds, holds_are_small, messages_are_heeded};
+use replica_core::{holds_are_small, messages_are_heeded};
 use run_model::{
     Ask, History, Message, Order, finals_agree, local_step_is_one, runs_are_sound, runs_in_order,
 };
@@ -23,6 +24,7 @@ use std::alloc::Global;
 /// All replicas before their first step.
 fn begin(alloc: Global, setup: &Setup) -> Result<Vec<Node>, NoMemory>
     requires well_formed { IsWellFormed setup.now.spec }
+    requires alone { HasLowsAlone setup.now }
     requires few { setup.now.replicas ≤ 8 }
     ensures { IfOk result (λ nodes. AreFirst setup.now setup.now.replicas nodes.items) }
 {
@@ -42,7 +44,6 @@ fn request_at(
     inst: &Inst,
 ) -> Result<(), NoMemory>
     requires well_formed { IsWellFormed setup.now.spec }
-    requires lower { HasNoUpper setup.now.spec }
     requires place { me < length nodes.old.items }
     requires can { CanStepAt setup.now me nodes.old.items }
     requires fits { InstFits setup.now.spec inst.now }
@@ -111,7 +112,6 @@ fn take_order(
     links: &mut Vec<List<Message>>,
 ) -> Result<(), NoMemory>
     requires well_formed { IsWellFormed setup.now.spec }
-    requires lower { HasNoUpper setup.now.spec }
     requires few { setup.now.replicas ≤ 8 }
     requires schedule { ScheduleFits setup.now.spec setup.now.replicas schedule.now }
     requires up { AllByRecursion (λ order. StaysUp order.ask) schedule.now }
@@ -142,7 +142,7 @@ fn take_order(
 /// All lines of a schedule, one after the other.
 fn run(alloc: Global, setup: &Setup, schedule: &[Order]) -> Result<Vec<Node>, NoMemory>
     requires well_formed { IsWellFormed setup.now.spec }
-    requires lower { HasNoUpper setup.now.spec }
+    requires alone { HasLowsAlone setup.now }
     requires few { setup.now.replicas ≤ 8 }
     requires schedule { ScheduleFits setup.now.spec setup.now.replicas schedule.now }
     requires up { AllByRecursion (λ order. StaysUp order.ask) schedule.now }
@@ -164,7 +164,6 @@ fn histories(
     nodes: Vec<Node>,
 ) -> Result<List<History>, NoMemory>
     requires well_formed { IsWellFormed setup.now.spec }
-    requires lower { HasNoUpper setup.now.spec }
     requires some { 0 < setup.now.replicas }
     requires few { setup.now.replicas ≤ 8 }
     requires short { length schedule.now ≤ 100000 }
@@ -182,9 +181,8 @@ fn histories(
 
 /// Runs the replicas on the schedule: what each did, and how it stands at the end.
 pub fn simulate(alloc: Global, setup: &Setup, schedule: &[Order]) -> Result<List<History>, NoMemory>
-    requires well_formed { IsWellFormed setup.now.spec }
-    requires lower { HasNoUpper setup.now.spec }
-    requires some { 0 < setup.now.replicas }
+    requires settled { IsSettled setup.now }
+    requires alone { HasLowsAlone setup.now }
     requires few { setup.now.replicas ≤ 8 }
     requires schedule { ScheduleFits setup.now.spec setup.now.replicas schedule.now }
     requires up { AllByRecursion (λ order. StaysUp order.ask) schedule.now }
@@ -193,7 +191,6 @@ pub fn simulate(alloc: Global, setup: &Setup, schedule: &[Order]) -> Result<List
     runs_are_sound();
     runs_in_order();
     finals_agree();
-    firsts_keep_bounds();
     let nodes = run(alloc, setup, schedule)?;
     histories(alloc, setup, schedule, nodes)
 }
