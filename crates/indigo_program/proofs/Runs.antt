@@ -1,13 +1,21 @@
 -- Documents that are run or refused.
-use Rattle.std.proofs.Common.{◌≡◌, inl, inr, ℕ, zero, suc, List, [], ◌∷◌, length, refl, sym, ap, subst, ◌∙◌}
-use Rattle.std.specs.Prelude.{None, Result, Ok, Err, IfOk, slice_get}
+use Rattle.std.proofs.Common.{◌≡◌, inl, inr, ℕ, zero, suc, true, false, List, [], ◌∷◌, get_or, length, refl, sym, ap, subst, ◌∙◌, arith}
+use Rattle.std.specs.Prelude.{Contains, None, Result, Ok, Err, IfOk, slice_get}
 use Rattle.std.specs.List.{AllByRecursion}
 use Rattle.std.specs.Option.{option_map_or}
 use Rattle.spec_model.specs.declared.spec.Num.{Num}
+use Rattle.spec_model.specs.declared.spec.Pred.{Pred}
+use Rattle.spec_model.specs.declared.clause.Clause.{Clause}
+use Rattle.spec_model.specs.declared.instance.Inst.{Inst}
+use Rattle.spec_model.specs.Fits.{marked_from}
+use Rattle.spec_model.specs.Stable.{IsStable}
+use Rattle.spec_model.specs.Truths.{no_pred, rule_locks}
 use Rattle.line_text.specs.declared.cause.Cause.{Cause}
-use Rattle.replica_core.specs.Tables.{HasNoUpper}
+use Rattle.replica_core.specs.Tables.{HasLowsAlone}
+use Rattle.run_model.specs.Sound.{IsSettled}
 use Rattle.scenario_text.specs.declared.document.Document.{Document}
 use Rattle.scenario_text.specs.Built.{IsBuilt}
+use Rattle.scenario_text.specs.WellFormed.{IsWellFormedDocument}
 use Rattle.line_text.specs.Lines.{lines_of}
 use Rattle.scenario_text.specs.Reading.{document_of, document_of_draft, draft_of}
 use Rattle.plan_answers.specs.Checking as checks
@@ -16,7 +24,7 @@ use Rattle.indigo_program.specs.declared.command.Command.{Command}
 use Rattle.indigo_program.specs.declared.command.Command.TheVariants as commands
 use Rattle.plan_answers.specs.declared.answer.Answer.{Answer}
 use Rattle.indigo_program.specs.CauseTexts.{refusal_text}
-use Rattle.indigo_program.specs.Headline.{IsAnswerTo}
+use Rattle.indigo_program.specs.Headline.{IsAnswerTo, setup_of}
 use Rattle.indigo_program.specs.Inputs.{Refuses}
 
 no_most : (nums : List Num) (n : ℕ) → AllByRecursion (λ (num : Num). num.max ≡ None) nums → option_map_or (λ (num : Num). num.max) (slice_get nums n) None ≡ None
@@ -24,9 +32,30 @@ no_most [] n all = refl
 no_most (num ∷ nums) zero all = all.0
 no_most (num ∷ nums) (suc n) all = no_most nums n all.1
 
--- no cell of a document that can be run has an upper bound
-pub no_upper : (d : Document) → IsBuilt d → HasNoUpper d.spec
-no_upper d built = λ cell. no_most d.spec.nums cell.num built.nums
+-- a document that can be run has rights to lower cells alone
+pub built_lows : (d : Document) → IsBuilt d → HasLowsAlone (setup_of d)
+built_lows d built = record { upper = λ cell. no_most d.spec.nums cell.num built.nums; locks = refl; masks = refl; parts = refl }
+
+none_locked : (preds : List Pred) (p : ℕ) → AllByRecursion (λ pred. rule_locks pred.rule ≡ false) preds → rule_locks (get_or preds p no_pred).rule ≡ false
+none_locked [] p all = refl
+none_locked (pred ∷ preds) zero all = all.0
+none_locked (pred ∷ preds) (suc p) all = none_locked preds p all.1
+
+-- without clauses and locked predicates all pairs are stable
+built_stable : (d : Document) (e o : Inst) → IsBuilt d → IsStable d.spec e o
+built_stable d e o built = record {
+  keeps = λ q row start first second c there. let none = subst (λ (l : List Clause). Contains l c) built.clauses there in absurd (omega (arith, none.1));
+  agrees = λ p xs v locked within sets same. absurd (let wrong : true ≡ false = sym locked ∙ none_locked d.spec.preds p built.preds in cc);
+}
+
+-- so an empty plan is enough
+pub built_settled : (d : Document) → IsBuilt d → IsWellFormedDocument d → IsSettled (setup_of d)
+built_settled d built formed = record {
+  some = omega (arith, formed.some_replicas);
+  spec = formed.spec;
+  plan = record { locks_fit = tt; parts_fit = tt; once = tt; masks = sym (ap (marked_from 0) built.clauses) };
+  enough = λ e o fits too apart. built_stable d e o built;
+}
 
 -- the reply that refuses a line is an answer
 pub refused_answer : {E : Type 0} (command : Command) (bytes : List ℕ) (line : ℕ) (cause : Cause) (result : Result Answer E) → Refuses command bytes line cause

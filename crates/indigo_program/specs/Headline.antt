@@ -10,7 +10,7 @@ use Rattle.run_model.specs.declared.step.Order.{Order}
 use Rattle.run_model.specs.declared.step.StepEntry.{StepEntry}
 use Rattle.run_model.specs.Worlds.{World}
 use Rattle.run_model.specs.Runs.{IsLegal}
-use Rattle.run_model.specs.Balance.{AtEachStep, IsSound}
+use Rattle.run_model.specs.Sound.{AtEachStep, IsSound}
 use Rattle.run_model.specs.Trace.{trace_text}
 use Rattle.line_text.specs.declared.cause.Cause.{Cause}
 use Rattle.scenario_text.specs.declared.document.Document.{Document}

@@ -2,8 +2,8 @@
 
 ghost use Rattle.std.specs.Prelude.{◌≡◌, ◌<◌, ◌≤◌, ◌++◌, IfOk, Ok, OnOk, codes, length};
 ghost use Rattle.std.specs.List.{AllByRecursion};
-ghost use Rattle.spec_model.specs.Fits.{IsWellFormed};
-ghost use Rattle.replica_core.specs.Tables.{HasNoUpper};
+ghost use Rattle.run_model.specs.Sound.{IsSettled};
+ghost use Rattle.replica_core.specs.Tables.{HasLowsAlone};
 ghost use Rattle.scenario_text.specs.Built.{StaysUp};
 ghost use Rattle.scenario_text.specs.Reading.{document_of};
 ghost use Rattle.scenario_text.specs.WellFormed.{IsWellFormedDocument, ScheduleFits};
@@ -59,9 +59,8 @@ fn refused(alloc: Global, line: u32, cause: Cause) -> Result<Answer, NoMemory>
 
 /// The trace of replicas on a schedule.
 fn trace(alloc: Global, spec: Spec, replicas: u32, orders: &[Order]) -> Result<List<u8>, NoMemory>
-    requires well_formed { IsWellFormed spec }
-    requires lower { HasNoUpper spec }
-    requires some { 0 < replicas }
+    requires settled { IsSettled (record { spec = spec; plan = no_plan; replicas = replicas }) }
+    requires alone { HasLowsAlone (record { spec = spec; plan = no_plan; replicas = replicas }) }
     requires few { replicas ≤ 8 }
     requires schedule { ScheduleFits spec replicas orders.now }
     requires up { AllByRecursion (λ order. StaysUp order.ask) orders.now }

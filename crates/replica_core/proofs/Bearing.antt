@@ -41,7 +41,7 @@ use Rattle.run_model.proofs.WorldLogs.{logs_there}
 use Rattle.replica_core.specs.Drafts.{gives_to}
 use Rattle.replica_core.specs.Heeded.{CanAccept, held_after}
 use Rattle.replica_core.specs.Laws.{MessagesAreHeeded}
-use Rattle.replica_core.specs.Replicas.{known_to, standing_of}
+use Rattle.replica_core.specs.Replicas.{known_to, standing_of, view_of}
 use Rattle.replica_core.specs.Tables.{HasLowsAlone, IsLow}
 use Rattle.replica_core.specs.declared.replica.Replica.{Replica}
 use Rattle.replica_core.proofs.Sent.{messages_fit}
@@ -200,7 +200,7 @@ bearable setup entries world me from l cell part well few some runs stands short
     omega (arith, same, one, flight, balance, first_small spec cell well, all_created spec cell items well, count, replicas, kept.whole, few)
 
 -- a cell of which an item that fits gives some is of the universe
-gives_of_cell : (setup : Setup) (r : Replica) (before : List LogItem) (item : LogItem) (cell : Cell) → HasLowsAlone setup → BodyFits setup item.body → held_after setup r (before ++ item ∷ []) cell ≢ held_after setup r before cell → Contains (cells setup.spec) cell
+gives_of_cell : (setup : Setup) (r : Replica) (before : List LogItem) (item : LogItem) (cell : Cell) → HasLowsAlone setup → BodyFits setup item.body → held_after setup (view_of r) (before ++ item ∷ []) cell ≢ held_after setup (view_of r) before cell → Contains (cells setup.spec) cell
 gives_of_cell setup r before item cell alone fits differs = by_body item.body refl fits
   where
     nothing : gives_to r.me (right.Low cell) item.body ≡ 0 → ⊥
@@ -242,7 +242,7 @@ messages_heeded setup entries world r stamp sendings from number sent message we
           is = part.is ∙ ap (λ (l : List LogItem). part.front ++ (l ++ part.behind)) halves ∙ ap (λ (l : List LogItem). part.front ++ l) (append_assoc (take k items ++ item ∷ []) (drop (k + 1) items) part.behind);
         }
 
-    can : MessageFits setup r.me message → (k : ℕ) (item : LogItem) → slice_get message.items k ≡ Some item → IsPart (log_at (logs_of world) from) message.items → CanAccept setup r (take k message.items) item
+    can : MessageFits setup r.me message → (k : ℕ) (item : LogItem) → slice_get message.items k ≡ Some item → IsPart (log_at (logs_of world) from) message.items → CanAccept setup (view_of r) (take k message.items) item
     can fits k item there part cell differs =
         let fit : ItemFits setup item = each_at (ItemFits setup) message.items k item fits.items there in
         let known = gives_of_cell setup r (take k message.items) item cell lower fit.body differs in

@@ -1,49 +1,39 @@
 -- What was decided is done once its batch is committed.
 use Rattle.std.proofs.Common.{◌≡◌, inl, inr, ℕ, zero, suc, ◌+◌, ◌<◌, ◌≤◌, ◌^◌, List, [], ◌∷◌, ◌++◌, length, map, take, drop, refl, sym, ap, subst, ◌∙◌, arith, length-append, length-take}
-use Rattle.std.specs.Prelude.{Some, None, Option, slice_index, sum_by}
+use Rattle.std.specs.Prelude.{Some, slice_index}
 use Rattle.std.specs.List.{AllByRecursion}
 use Rattle.std.proofs.lemmas.List.{append_assoc, append_cancel_left, take-append-drop}
 use Rattle.std.proofs.lemmas.Option.{slice_get_within}
 use Rattle.spec_model.specs.declared.plan.Setup.{Setup}
 use Rattle.spec_model.specs.declared.instance.Inst.{Inst}
-use Rattle.spec_model.specs.declared.instance.Cell.{Cell}
-use Rattle.spec_model.specs.declared.right.Lacking.{Lacking}
+use Rattle.spec_model.specs.declared.right.Want.{Want}
 use Rattle.spec_model.specs.declared.right.Right.TheVariants as right
 use Rattle.spec_model.specs.declared.log.Body.{Body}
 use Rattle.spec_model.specs.declared.log.Body.TheVariants as body
 use Rattle.spec_model.specs.declared.log.LogItem.{LogItem}
 use Rattle.spec_model.specs.Fits.{InstFits}
-use Rattle.spec_model.specs.Breaks.{broken_by}
-use Rattle.spec_model.specs.Needs.{needs}
 use Rattle.run_model.specs.declared.batch.Batch.{Batch}
 use Rattle.run_model.specs.declared.message.Message.{Message}
 use Rattle.run_model.specs.declared.step.Outcome.{Outcome}
 use Rattle.run_model.specs.declared.step.Outcome.TheVariants as outcomes
-use Rattle.run_model.specs.Logs.{Logs, item_at, items_in, log_at}
-use Rattle.run_model.specs.Worlds.{Sending, Standing, logged}
-use Rattle.run_model.specs.Steps.{AreAdmitted, Requests, Takes, accepts_of, answered, cut_after, dropped, received, unseen}
+use Rattle.run_model.specs.Logs.{Logs, item_at, log_at}
+use Rattle.run_model.specs.Worlds.{Sending, Standing, holding, logged, logged_all}
+use Rattle.run_model.specs.Steps.{AreAdmitted, Requests, Takes, accepts_of, answered, cut_after, dropped, given, received}
 use Rattle.run_model.specs.Fitting.{AreInRow, IsPlaced, ItemFits, MessageFits}
 use Rattle.run_model.proofs.Escrow.{spends_held}
-use Rattle.run_model.specs.Levels.{first_lacking}
-use Rattle.run_model.specs.Rights.{held_count}
-use Rattle.run_model.specs.Holding.{held_of}
-use Rattle.run_model.specs.States.{truth_of}
-use Rattle.run_model.specs.Wants.{still_wanted}
+use Rattle.run_model.specs.Wants.{need_of, piece_for, still_wanted}
 use Rattle.run_model.proofs.Lists.{each_append, each_weaker}
-use Rattle.causal_store.specs.Stores.{cut_in, logs_in, state_truths}
+use Rattle.causal_store.specs.Stores.{cut_in, logs_in}
 use Rattle.causal_store.specs.declared.store.Store.{Store}
 use Rattle.replica_core.specs.Tables.{AreHeld}
-use Rattle.replica_core.specs.Replicas.{AreCovered, HasAnswered, HasLearned, HasLoggedAll, HasTaken, IsKnown, IsReplica, KnowsOwn, holds_of, known_to, own_log, standing_of, with_items}
-use Rattle.replica_core.specs.Decisions.{AreNext, Decides, IsDecided, IsTaken, Splits, StaysSame, broken_here}
-use Rattle.replica_core.specs.Drafts.{gives_to}
-use Rattle.replica_core.specs.Heeded.{held_after}
-use Rattle.replica_core.specs.declared.decision.Decision.{Decision}
+use Rattle.replica_core.specs.Replicas.{AreCovered, HasAnswered, HasLearned, HasLoggedAll, HasTaken, IsKnown, IsReplica, KnowsOwn, holds_of, known_to, own_log, standing_of, view_of, with_items}
+use Rattle.replica_core.specs.Views.{View}
+use Rattle.replica_core.specs.Decisions.{AreNext, Decides, IsDecided, IsTaken, Splits, StaysSame, truths_here}
 use Rattle.replica_core.specs.declared.decision.Decision.TheVariants as decision
 use Rattle.replica_core.specs.declared.decision.Taken.{Taken}
 use Rattle.replica_core.specs.declared.replica.Replica.{Replica}
 use Rattle.replica_core.proofs.Changes.{bodies_back, items_for, items_long, logged_items}
 use Rattle.replica_core.proofs.Finished.{Drops, has_taken, left_answers, left_stands, outs_of}
-use Rattle.replica_core.proofs.Looking.{heeds_like}
 use Rattle.replica_core.proofs.Needed.{answered_done}
 use Rattle.replica_core.proofs.Next.{accepts_free, answered_gives, free_next, gives_few, gives_for, gives_next}
 use Rattle.replica_core.proofs.Received.{Admits, HasReceived, Learns, accepts_few, cut_counts, has_received, items_placed, learned_stands, part_of, told_of}
@@ -63,19 +53,19 @@ back_of (x ∷ xs) ys (suc n) is = back_of xs ys n (omega (arith, is))
 
 -- ---- an act
 
-pub act_next : (setup : Setup) (r : Replica) (inst : Inst) (batch : Batch) (items : List LogItem) → InstFits setup.spec inst → Decides setup inst r (decision.Act batch) → items ≡ batch.items → AreNext setup (known_to r) r.me (standing_of 0 [] r) items
+pub act_next : (setup : Setup) (r : Replica) (inst : Inst) (batch : Batch) (items : List LogItem) → InstFits setup.spec inst → Decides setup inst (view_of r) (decision.Act batch) → items ≡ batch.items → AreNext setup (known_to r) r.me (standing_of 0 [] r) items
 act_next setup r inst batch items fits decides is =
     subst (AreNext setup (known_to r) r.me (standing_of 0 [] r)) (sym (is ∙ decides.1)) (
       record {
         is = refl;
         fits = fits;
         known = tt;
-        enough = λ cell among. spends_held setup (known_to r) r.me (own_log r) (state_truths setup.spec r.store) inst (right.Low cell) among decides.0;
+        enough = λ cell among. spends_held setup (known_to r) r.me (own_log r) (truths_here setup (view_of r)) inst (right.Low cell) among decides.0;
       },
       tt,
     )
 
-pub act_done : (setup : Setup) (old new : Replica) (inst : Inst) (batch : Batch) (items : List LogItem) → Decides setup inst old (decision.Act batch) → items ≡ batch.items → HasLoggedAll setup (map (λ (i : LogItem). i.body) items) old new
+pub act_done : (setup : Setup) (old new : Replica) (inst : Inst) (batch : Batch) (items : List LogItem) → Decides setup inst (view_of old) (decision.Act batch) → items ≡ batch.items → HasLoggedAll setup (map (λ (i : LogItem). i.body) items) old new
     → HasAnswered setup inst old (outcomes.Done (length (own_log old))) new
 act_done setup old new inst batch items decides is h =
     let logged : HasLoggedAll setup (body.Act inst ∷ []) old new = subst (λ (l : List LogItem). HasLoggedAll setup (map (λ (i : LogItem). i.body) l) old new) (is ∙ decides.1) h in
@@ -90,6 +80,21 @@ start_of message r applied = record (standing_of 0 [] r) { told = told_of messag
 -- how it stands before it answers
 abbrev pub before_of : Setup → Message → Replica → List LogItem → Standing
 before_of setup message r applied = dropped setup (with_items message.from applied (known_to r)) r.me (received r.me message applied (standing_of 0 [] r))
+
+-- the same but for what is wanted, was told and was sent
+abbrev plain : Standing → Standing
+plain p = record p { stamp = 0; wants = []; told = []; sendings = [] }
+
+-- by which a replica logs and answers the same
+logged_plain : (me : ℕ) (bodies : List Body) (p : Standing) → logged_all me bodies (plain p) ≡ plain (logged_all me bodies p)
+logged_plain me [] p = refl
+logged_plain me (b ∷ bodies) p = logged_plain me bodies (logged me b p)
+
+answered_plain : (setup : Setup) (logs : Logs) (me to : ℕ) (wants : List Want) (p : Standing) → answered setup logs me to wants (plain p) ≡ plain (answered setup logs me to wants p)
+answered_plain setup logs me to [] p = refl
+answered_plain setup logs me to (w ∷ wants) p =
+    let bodies : List Body = given (piece_for (holding setup logs me p (need_of w)) w.ask) to w.right in
+    ap (answered setup logs me to wants) (logged_plain me bodies p) ∙ answered_plain setup logs me to wants (logged_all me bodies p)
 
 -- the parts by their meaning
 pub record Parts (setup : Setup) (message : Message) (r : Replica) (taken : Taken) (front accepts outs : List LogItem) : Type 0 where
@@ -110,7 +115,8 @@ parts_of setup message r taken front accepts outs h =
     let bodies : List Body = accepts_of me applied in
     let a : List LogItem = items_for me bodies (start_of message r applied) in
     let after : Standing = answered setup logs me message.from message.wants before in
-    let after_is : t.after ≡ after = t.takes.becomes ∙ ap (answered setup logs me message.from message.wants) t.takes.before_is in
+    let before_is : t.takes.before_answers ≡ plain before = t.takes.before_is ∙ ap (dropped setup logs me) (logged_plain me bodies (start_of message r applied)) in
+    let after_is : t.after ≡ plain after = t.takes.becomes ∙ ap (answered setup logs me message.from message.wants) before_is ∙ answered_plain setup logs me message.from message.wants before in
     let before_log : before.log ≡ own_log r ++ a = logged_items me bodies (start_of message r applied) in
     let counts = same_took message.number taken.applied taken.accepted taken.gave message.number (length applied) (length bodies) t.takes.gave t.takes.outcome_is in
     let outs_log : after.log ≡ before.log ++ drop (length a) t.own = ends setup logs me message before (own_log r) a t.own before_log (sym (ap (λ (p : Standing). p.log) after_is) ∙ t.longer) in
@@ -121,7 +127,7 @@ parts_of setup message r taken front accepts outs h =
     let behind : drop taken.applied taken.batch.items ≡ t.own = ap (drop taken.applied) t.batch ∙ back_of applied t.own taken.applied counts.0 in
     let accepts_same : accepts ≡ a = h.accepts_are ∙ ap (take taken.accepted) (behind ∙ own_is) ∙ front_of a (drop (length a) t.own) taken.accepted (counts.1 ∙ sym many) in
     let outs_same : outs ≡ drop (length a) t.own = h.outs_are ∙ ap (drop taken.accepted) (behind ∙ own_is) ∙ back_of a (drop (length a) t.own) taken.accepted (counts.1 ∙ sym many) in
-    let gave : length after.log ≡ length before.log + t.takes.gave = sym (ap (λ (p : Standing). length p.log) after_is) ∙ t.takes.gave_is ∙ ap (λ (p : Standing). length p.log + t.takes.gave) t.takes.before_is in
+    let gave : length after.log ≡ length before.log + t.takes.gave = sym (ap (λ (p : Standing). length p.log) after_is) ∙ t.takes.gave_is ∙ ap (λ (p : Standing). length p.log + t.takes.gave) before_is in
     let done : Parts setup message r taken applied a (drop (length a) t.own) = record {
       admitted = t.takes.admitted;
       applied_is = counts.0;
@@ -210,7 +216,7 @@ taken_done setup message r mid left new taken front accepts outs h drops logged 
     subst (λ (o : Outcome). HasTaken setup message r o new) outcome (has_taken setup message r mid left new front drops (subst (λ (bs : List Body). HasLoggedAll setup bs left new) these logged) h.fits.few_wants)
 
 -- the batch has as many items of its own
-pub accepted_within : (setup : Setup) (message : Message) (r : Replica) (taken : Taken) → IsReplica setup r.me r → MessageFits setup r.me message → IsTaken setup message r taken → taken.accepted ≤ length (drop taken.applied taken.batch.items)
+pub accepted_within : (setup : Setup) (message : Message) (r : Replica) (taken : Taken) → IsReplica setup r.me r → MessageFits setup r.me message → IsTaken setup message (view_of r) taken → taken.accepted ≤ length (drop taken.applied taken.batch.items)
 accepted_within setup message r taken own fits decided =
     let items : List LogItem = taken.batch.items in
     let left : List LogItem = drop taken.applied items in
@@ -237,10 +243,8 @@ same_store : (setup : Setup) (old : Replica) (s : Store) → IsReplica setup old
 same_store setup old s own logs cut =
     let me : ℕ = old.me in
     let back : known_to old ≡ logs_in s = sym logs in
-    let back_cut : cut_in old.store ≡ cut_in s = sym cut in
     let stand : Logs → List ℕ → ℕ → List Sending → Standing = λ l k stamp sendings. record { log = log_at l me; cut = k; stamp = stamp; wants = old.wants; told = old.told; sendings = sendings } in
     record {
-      me = refl;
       own = record {
         me_is = refl;
         within = own.within;
@@ -261,21 +265,10 @@ same_store setup old s own logs cut =
         told = own.told;
         told_each = own.told_each;
       };
-      knows = logs;
+      view = ap (λ (l : Logs). let v : View = record { me = me; known = l; cut = cut_in s } in v) logs ∙ ap (λ (k : List ℕ). let v : View = record { me = me; known = known_to old; cut = k } in v) cut;
       wants = refl;
       told = refl;
       room = λ n h. subst (λ (l : Logs). length (log_at l me) + n < 2 ^ 32) back h;
-      decides = λ inst d h. same_decision inst d h;
-      heeds = λ message heeded h. heeds_like setup old (record old { store = s }) message heeded (λ items cell. held_like items cell) refl h;
-      taken = λ message taken h. record {
-        applied = h.applied;
-        own = h.own;
-        after = h.after;
-        takes = subst (λ (k : List ℕ). Takes setup (with_items message.from h.applied (logs_in s)) me message h.applied (stand (logs_in s) k 0 []) (outcomes.Took message.number taken.applied taken.accepted taken.gave) h.after) back_cut
-            (subst (λ (l : Logs). Takes setup (with_items message.from h.applied l) me message h.applied (stand l (cut_in old.store) 0 []) (outcomes.Took message.number taken.applied taken.accepted taken.gave) h.after) back h.takes);
-        longer = subst (λ (l : Logs). h.after.log ≡ log_at l me ++ h.own) back h.longer;
-        batch = h.batch;
-      };
       answered = λ inst outcome last h. record {
         own = h.own;
         requests = λ stamp sendings. subst (λ (k : List ℕ). Requests setup (known_to old) me inst (stand (known_to old) k stamp sendings) outcome (standing_of stamp sendings last)) cut
@@ -292,28 +285,6 @@ same_store setup old s own logs cut =
         grown = subst (λ (l : Logs). length (own_log last) ≤ length (log_at l me) + 24) logs h.grown;
       };
     }
-  where
-    held_like : (items : List LogItem) (cell : Cell) → held_after setup old items cell ≡ held_after setup (record old { store = s }) items cell
-    held_like items cell =
-        ap (λ (l : Logs). held_count setup l old.me (log_at l old.me) (right.Low cell) + sum_by (λ (i : LogItem). gives_to old.me (right.Low cell) i.body) (unseen (cut_in old.store) items)) (sym logs)
-        ∙ ap (λ (k : List ℕ). held_count setup (logs_in s) old.me (log_at (logs_in s) old.me) (right.Low cell) + sum_by (λ (i : LogItem). gives_to old.me (right.Low cell) i.body) (unseen k items)) (sym cut)
-
-    same_broken : (inst : Inst) → broken_here setup inst old ≡ broken_here setup inst (record old { store = s })
-    same_broken inst =
-        ap (λ (l : Logs). broken_by setup.spec (truth_of setup.spec (items_in (cut_in old.store) l)) inst) (sym logs) ∙ ap (λ (k : List ℕ). broken_by setup.spec (truth_of setup.spec (items_in k (logs_in s))) inst) (sym cut)
-
-    same_truths : (inst : Inst) (o : Option Lacking) → first_lacking setup.replicas (holds_of setup old) (needs setup (truth_of setup.spec (items_in (cut_in old.store) (known_to old))) inst) ≡ o
-        → first_lacking setup.replicas (holds_of setup old) (needs setup (truth_of setup.spec (items_in (cut_in s) (known_to old))) inst) ≡ o
-    same_truths inst o h = subst (λ (k : List ℕ). first_lacking setup.replicas (holds_of setup old) (needs setup (truth_of setup.spec (items_in k (known_to old))) inst) ≡ o) (sym cut) h
-
-    same_decision : (inst : Inst) (d : Decision) → Decides setup inst old d → Decides setup inst (record old { store = s }) d
-    same_decision inst (decision.Breaks broken) h = sym (same_broken inst) ∙ h
-    same_decision inst (decision.Short lacking) h = (subst (λ (l : Logs). first_lacking setup.replicas (λ need. held_of setup l old.me (log_at l old.me) need) (needs setup (truth_of setup.spec (items_in (cut_in s) l)) inst) ≡ Some lacking) (sym logs) (same_truths inst (Some lacking) h.0), h.1, sym (same_broken inst) ∙ h.2)
-    same_decision inst (decision.Act batch) h = (
-      subst (λ (l : Logs). first_lacking setup.replicas (λ need. held_of setup l old.me (log_at l old.me) need) (needs setup (truth_of setup.spec (items_in (cut_in s) l)) inst) ≡ None) (sym logs) (same_truths inst None h.0),
-      h.1 ∙ ap (λ (l : Logs). record { origin = old.me; index = length (log_at l old.me); deps = cut_in old.store; body = body.Act inst } ∷ []) (sym logs) ∙ ap (λ (k : List ℕ). record { origin = old.me; index = length (log_at (logs_in s) old.me); deps = k; body = body.Act inst } ∷ []) (sym cut),
-      sym (same_broken inst) ∙ h.2,
-    )
 
 pub stays_same : (setup : Setup) (old new : Replica) → IsReplica setup old.me old → new ≡ record old { store = new.store } → logs_in new.store ≡ known_to old → cut_in new.store ≡ cut_in old.store → StaysSame setup old new
 stays_same setup old new own kept logs cut = subst (StaysSame setup old) (sym kept) (same_store setup old new.store own logs cut)
@@ -322,7 +293,7 @@ stays_same setup old new own kept logs cut = subst (StaysSame setup old) (sym ke
 abbrev pub IsOfOne : ℕ → LogItem → Type 0
 IsOfOne replicas i = i.origin < replicas
 
-taken_origins : (setup : Setup) (r : Replica) (message : Message) (taken : Taken) → IsReplica setup r.me r → MessageFits setup r.me message → IsTaken setup message r taken → AllByRecursion (IsOfOne setup.replicas) taken.batch.items
+taken_origins : (setup : Setup) (r : Replica) (message : Message) (taken : Taken) → IsReplica setup r.me r → MessageFits setup r.me message → IsTaken setup message (view_of r) taken → AllByRecursion (IsOfOne setup.replicas) taken.batch.items
 taken_origins setup r message taken own fits decided =
     let items : List LogItem = taken.batch.items in
     let left : List LogItem = drop taken.applied items in
@@ -343,7 +314,7 @@ taken_origins setup r message taken own fits decided =
     all_own (b ∷ bodies) p = (own.within, all_own bodies (logged r.me b p))
 
 -- all items that it decided on are of replicas
-pub decided_origins : (setup : Setup) (r : Replica) (batch : Batch) → IsReplica setup r.me r → IsDecided setup r batch → AllByRecursion (λ item. item.origin < setup.replicas) batch.items
+pub decided_origins : (setup : Setup) (r : Replica) (batch : Batch) → IsReplica setup r.me r → IsDecided setup (view_of r) batch → AllByRecursion (λ item. item.origin < setup.replicas) batch.items
 decided_origins setup r batch own (inl act) = subst (AllByRecursion (λ (i : LogItem). i.origin < setup.replicas)) (sym act.2.1) (own.within, tt)
 decided_origins setup r batch own (inr (message, taken, takes, is)) = subst (λ (b : Batch). AllByRecursion (IsOfOne setup.replicas) b.items) is (elim (heeded_or_nothing setup r message taken takes) [
   | inl (heeded, fits, decided) ↦ taken_origins setup r heeded taken own fits decided
@@ -351,7 +322,7 @@ decided_origins setup r batch own (inr (message, taken, takes, is)) = subst (λ 
 ])
 
 -- a batch of a take: the items that were admitted, and then those of its own
-pub decided_parts : (setup : Setup) (message : Message) (r : Replica) (taken : Taken) → IsReplica setup r.me r → MessageFits setup r.me message → IsTaken setup message r taken → let front : List LogItem = take taken.applied taken.batch.items in let logs : Logs = with_items message.from front (known_to r) in let before : Standing = before_of setup message r front in
+pub decided_parts : (setup : Setup) (message : Message) (r : Replica) (taken : Taken) → IsReplica setup r.me r → MessageFits setup r.me message → IsTaken setup message (view_of r) taken → let front : List LogItem = take taken.applied taken.batch.items in let logs : Logs = with_items message.from front (known_to r) in let before : Standing = before_of setup message r front in
     AreAdmitted (cut_in r.store) message.items front × (taken.batch.items ≡ front ++ (items_for r.me (accepts_of r.me front) (start_of message r front) ++ items_for r.me (gives_for setup logs r.me message.from message.wants before) before))
 decided_parts setup message r taken own fits decided =
     let items : List LogItem = taken.batch.items in

@@ -30,7 +30,8 @@ use Rattle.run_model.specs.Fitting.{MessageFits}
 use Rattle.run_model.proofs.Lists.{each_weaker}
 use Rattle.run_model.proofs.Agreed.{Agrees, AllAgree, gains_all_agree}
 use Rattle.causal_store.specs.Stores.{cut_in}
-use Rattle.replica_core.specs.Replicas.{IsKnown, IsReplica, known_to, own_log, standing_of, with_items}
+use Rattle.replica_core.specs.Views.{standing_in}
+use Rattle.replica_core.specs.Replicas.{IsKnown, IsReplica, known_to, own_log, view_of, with_items}
 use Rattle.replica_core.specs.Decisions.{IsTaken}
 use Rattle.replica_core.specs.Drafts.{HasAccepted, HasDrafted, HasDraftedAnswers, IsDraft, drafted, drafted_holds, drafted_logs, gives_to}
 use Rattle.replica_core.specs.declared.decision.Taken.{Taken}
@@ -38,7 +39,7 @@ use Rattle.replica_core.specs.declared.draft.Draft.{Draft}
 use Rattle.replica_core.specs.declared.replica.Replica.{Replica}
 use Rattle.replica_core.proofs.Changes.{answered_append, given_few, logged_append}
 use Rattle.replica_core.proofs.Logged.{cut_long}
-use Rattle.replica_core.proofs.Received.{agrees_stays, cut_applied, cut_counts, items_placed, part_of, told_of}
+use Rattle.replica_core.proofs.Received.{agrees_stays, cut_applied, cut_counts, items_placed, part_of}
 
 -- ---- several bodies
 
@@ -230,13 +231,13 @@ logged_wants me (b ∷ bodies) p w = logged_wants me bodies (logged me b p) w
 
 -- what was drafted is what it takes
 pub is_taken : (setup : Setup) (message : Message) (r : Replica) (taken : Taken) (first mid last : Draft) → Starts setup message r first → HasDrafted r (accepts_of r.me first.applied) first mid → HasDraftedAnswers setup r message.from message.wants mid last
-    → taken.batch.items ≡ last.applied ++ last.own → taken.applied ≡ length last.applied → taken.accepted ≡ length mid.own → taken.gave ≡ length last.own - length mid.own → IsTaken setup message r taken
+    → taken.batch.items ≡ last.applied ++ last.own → taken.applied ≡ length last.applied → taken.accepted ≡ length mid.own → taken.gave ≡ length last.own - length mid.own → IsTaken setup message (view_of r) taken
 is_taken setup message r taken first mid last h accepts answers items applied_is accepted_is gave_is =
     let me : ℕ = r.me in
-    let old : Standing = standing_of 0 [] r in
+    let old : Standing = standing_in (view_of r) in
     let applied : List LogItem = first.applied in
     let logs : Logs = with_items message.from applied (known_to r) in
-    let start : Standing = record old { told = told_of message r; cut = cut_after (cut_in r.store) applied } in
+    let start : Standing = record old { cut = cut_after (cut_in r.store) applied } in
     let all : Standing = received me message applied old in
     let wants : List Want = still_wanted setup.replicas (holding setup logs me all) all.wants in
     let before : Standing = dropped setup logs me all in

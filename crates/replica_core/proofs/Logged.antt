@@ -22,7 +22,8 @@ use Rattle.run_model.proofs.Agreed.{Agrees, AllAgree, gains_agree, gains_all_agr
 use Rattle.causal_store.specs.Stores.{IsStore, cut_in}
 use Rattle.causal_store.proofs.Stored.{each_log, each_set}
 use Rattle.replica_core.specs.Tables.{AreUpTo}
-use Rattle.replica_core.specs.Replicas.{HasLogged, IsKnown, IsReplica, item_of, known_to, own_log, standing_of}
+use Rattle.replica_core.specs.Views.{item_of}
+use Rattle.replica_core.specs.Replicas.{HasLogged, IsKnown, IsReplica, known_to, own_log, standing_of, view_of}
 use Rattle.replica_core.specs.declared.replica.Replica.{Replica}
 use Rattle.replica_core.proofs.Counts.{in_universe}
 
@@ -72,7 +73,7 @@ cut_long replicas r store = ap length store.counts ∙ length-map (known_to r) (
 pub record LogsOne (setup : Setup) (b : Body) (old new : Replica) (counts : List ℕ) : Type 0 where
   pub own : IsReplica setup old.me old
   pub kept : new ≡ record old { lows = counts; store = new.store }
-  pub logs : known_to new ≡ slice_set (known_to old) old.me (own_log old ++ item_of old b ∷ [])
+  pub logs : known_to new ≡ slice_set (known_to old) old.me (own_log old ++ item_of (view_of old) b ∷ [])
   pub store : IsStore (length (known_to old)) new.store
   pub known : IsKnown (known_to old) old.me b
   pub fits : BodyFits setup b
@@ -91,7 +92,7 @@ logs_one setup b old new counts h =
     let known : Logs = known_to old in
     let now : Logs = known_to new in
     let own : List LogItem = own_log old in
-    let item : LogItem = item_of old b in
+    let item : LogItem = item_of (view_of old) b in
     let whole : length known ≡ setup.replicas = h.own.store.whole in
     let lt : me < length known = omega (arith, whole, h.own.within) in
     let there : log_at now me ≡ own ++ item ∷ [] = ap (λ (l : Logs). log_at l me) h.logs ∙ get_or-set_same known me (own ++ item ∷ []) [] lt in

@@ -1,4 +1,5 @@
 -- What a replica heeds of a message that may be any.
+use Rattle.replica_core.specs.Replicas.{view_of}
 use Rattle.std.proofs.Common.{◌≡◌, inl, inr, ℕ, zero, suc, ◌+◌, ◌<◌, ◌≤◌, Bool, true, false, cond, nat_eq, List, [], ◌∷◌, ◌++◌, length, get_or, take, drop, refl, sym, ap, subst, ◌∙◌, arith, length-append, length-take}
 use Rattle.std.specs.Prelude.{slice_get, slice_index, Some, not, nat_lt, sum_by}
 use Rattle.std.specs.List.{AllByRecursion}
@@ -24,7 +25,7 @@ use Rattle.run_model.proofs.Lists.{each_append, get_front, get_last, get_push}
 use Rattle.run_model.proofs.Own.{own_append, own_at, own_front}
 use Rattle.causal_store.specs.Stores.{cut_in}
 use Rattle.replica_core.specs.Drafts.{gives_to}
-use Rattle.replica_core.specs.Heeded.{AreFitting, AreHeeded, CanAccept, Heeds, IsAddressed, IsPartOf, MayApply, MayFollow, StaysSmall, first_at, held_after}
+use Rattle.replica_core.specs.Heeded.{AreFitting, AreHeeded, CanAccept, Heeds, IsAddressed, IsPartOf, MayApply, MayFollow, StaysSmall, first_at}
 use Rattle.replica_core.specs.declared.replica.Replica.{Replica}
 use Rattle.replica_core.proofs.Lists.{drop_at_item, take_more}
 
@@ -86,9 +87,9 @@ nothing_given r item cell none = elim (cases_Bool (not (nat_lt item.index (slice
 ]
 
 -- so where what is held of that stays small it can be accepted
-pub can_accept : (setup : Setup) (r : Replica) (before : List LogItem) (item : LogItem) (to : ℕ) (cell : Cell) (piece : Piece) → item.body ≡ body.Out to (right.Low cell) piece → StaysSmall setup r before item cell → CanAccept setup r before item
+pub can_accept : (setup : Setup) (r : Replica) (before : List LogItem) (item : LogItem) (to : ℕ) (cell : Cell) (piece : Piece) → item.body ≡ body.Out to (right.Low cell) piece → StaysSmall setup (view_of r) before item cell → CanAccept setup (view_of r) before item
 can_accept setup r before item to cell piece is small other = elim (cases_Bool (same_cell cell other)) [
-  | inl same ↦ subst (StaysSmall setup r before item) (same_cell_is cell other same) small
+  | inl same ↦ subst (StaysSmall setup (view_of r) before item) (same_cell_is cell other same) small
   | inr differs ↦ λ more.
       let none = nothing_given r item other (ap (gives_to r.me (right.Low other)) is ∙ gives_no_other r.me to cell other piece differs) in
       absurd (more (omega (arith, given_more r before item other, none)))
@@ -100,7 +101,7 @@ can_accept setup r before item to cell piece is small other = elim (cases_Bool (
 pub record ApplyFrom (setup : Setup) (r : Replica) (from first : ℕ) (items : List LogItem) : Type 0 where
   pub row : AreInRow from first items
   pub fits : AllByRecursion (ItemFits setup) items
-  pub accepted : (k : ℕ) (item : LogItem) → slice_get items k ≡ Some item → CanAccept setup r (take k items) item
+  pub accepted : (k : ℕ) (item : LogItem) → slice_get items k ≡ Some item → CanAccept setup (view_of r) (take k items) item
 
 -- a front of a front
 take_front : (xs ys : List LogItem) (k : ℕ) → k ≤ length xs → take k (xs ++ ys) ≡ take k xs
@@ -112,21 +113,21 @@ take_front (x ∷ xs) ys (suc k) le = ap (λ (l : List LogItem). x ∷ l) (take_
 pub apply_none : (setup : Setup) (r : Replica) (from first : ℕ) → ApplyFrom setup r from first []
 apply_none setup r from first = record { row = tt; fits = tt; accepted = λ k item there. absurd cc }
 
-pub apply_more : (setup : Setup) (r : Replica) (from first index : ℕ) (items : List LogItem) (item : LogItem) → ApplyFrom setup r from first items → index ≡ first + length items → MayFollow setup r from index items item → ApplyFrom setup r from first (items ++ item ∷ [])
+pub apply_more : (setup : Setup) (r : Replica) (from first index : ℕ) (items : List LogItem) (item : LogItem) → ApplyFrom setup r from first items → index ≡ first + length items → MayFollow setup (view_of r) from index items item → ApplyFrom setup r from first (items ++ item ∷ [])
 apply_more setup r from first index items item h at may = record {
   row = own_append from first items (item ∷ []) index at h.row (may.is.origin, may.is.index_is, may.is.past, tt);
   fits = each_append (ItemFits setup) items (item ∷ []) h.fits (may.fits, tt);
   accepted = λ k x there.
       elim (get_push items item k x there) [
-        | inl here ↦ subst (λ (l : List LogItem). CanAccept setup r l x) (sym (take_front items (item ∷ []) k (omega (arith, slice_get_within items k x here)))) (h.accepted k x here)
+        | inl here ↦ subst (λ (l : List LogItem). CanAccept setup (view_of r) l x) (sym (take_front items (item ∷ []) k (omega (arith, slice_get_within items k x here)))) (h.accepted k x here)
         | inr last ↦
             let front : take k (items ++ item ∷ []) ≡ items = take_front items (item ∷ []) k (omega (arith, last.0)) ∙ take_all k items (omega (arith, last.0)) in
-            subst (λ (l : List LogItem). CanAccept setup r l x) (sym front) (subst (CanAccept setup r items) last.1 may.accepted)
+            subst (λ (l : List LogItem). CanAccept setup (view_of r) l x) (sym front) (subst (CanAccept setup (view_of r) items) last.1 may.accepted)
       ];
 }
 
 -- the last of them may follow the others
-pub apply_last : (setup : Setup) (r : Replica) (from index : ℕ) (items : List LogItem) (item : LogItem) → (h : MayApply setup r from (items ++ item ∷ [])) → index ≡ h.first + length items → MayFollow setup r from index items item
+pub apply_last : (setup : Setup) (r : Replica) (from index : ℕ) (items : List LogItem) (item : LogItem) → (h : MayApply setup (view_of r) from (items ++ item ∷ [])) → index ≡ h.first + length items → MayFollow setup (view_of r) from index items item
 apply_last setup r from index items item h at =
     let n : ℕ = length items in
     let there : slice_get (items ++ item ∷ []) n ≡ Some item = get_last items item n refl in
@@ -135,7 +136,7 @@ apply_last setup r from index items item h at =
     record {
       fits = last_fits items h.fits;
       is = record { origin = place.0; index_is = omega (arith, place.1, at); past = omega (arith, place.2, at) };
-      accepted = subst (λ (l : List LogItem). CanAccept setup r l item) front (h.accepted n item there);
+      accepted = subst (λ (l : List LogItem). CanAccept setup (view_of r) l item) front (h.accepted n item there);
     }
   where
     last_fits : (items : List LogItem) → AllByRecursion (ItemFits setup) (items ++ item ∷ []) → ItemFits setup item
@@ -152,14 +153,14 @@ row_first from first (x ∷ items) n row lt = (subst (AreInRow from first) (one_
 
 -- where the next may not follow, the items up to it are the longest front
 pub longest_front : (setup : Setup) (r : Replica) (from index : ℕ) (items : List LogItem) (n : ℕ) (item : LogItem) → ApplyFrom setup r from (first_at items) (take n items) → n < length items → item ≡ get_or items n item → index ≡ first_at items + n
-    → (MayFollow setup r from index (take n items) item → ⊥) → AreHeeded setup r from items (take n items)
+    → (MayFollow setup (view_of r) from index (take n items) item → ⊥) → AreHeeded setup (view_of r) from items (take n items)
 longest_front setup r from index items n item h lt is at stuck = record {
   rest = drop n items;
   front = sym (take-append-drop n items);
   may = record { first = first_at items; row = h.row; fits = h.fits; accepted = h.accepted };
   longest = λ x behind rest may.
       let next : x ≡ item = first_is x item behind (drop (n + 1) items) (sym rest ∙ drop_at_item items n item lt is) in
-      let may' : MayApply setup r from (take n items ++ item ∷ []) = subst (λ (i : LogItem). MayApply setup r from (take n items ++ i ∷ [])) next may in
+      let may' : MayApply setup (view_of r) from (take n items ++ item ∷ []) = subst (λ (i : LogItem). MayApply setup (view_of r) from (take n items ++ i ∷ [])) next may in
       let row : AreInRow from may'.first (take (n + 1) items) = subst (AreInRow from may'.first) (sym (take_more items n item lt is)) may'.row in
       let first = row_first from may'.first items n row lt in
       stuck (apply_last setup r from index (take n items) item may' (omega (arith, at, first, length-take n items, lt)));
@@ -169,7 +170,7 @@ longest_front setup r from index items n item h lt is at stuck = record {
     first_is x y xs ys h = cc
 
 -- and where none is left they are all
-pub whole_front : (setup : Setup) (r : Replica) (from first : ℕ) (items heeded : List LogItem) → heeded ≡ items → ApplyFrom setup r from first heeded → AreHeeded setup r from items heeded
+pub whole_front : (setup : Setup) (r : Replica) (from first : ℕ) (items heeded : List LogItem) → heeded ≡ items → ApplyFrom setup r from first heeded → AreHeeded setup (view_of r) from items heeded
 whole_front setup r from first items heeded is h = record {
   rest = [];
   front = sym is ∙ sym (append-nil heeded);
@@ -179,7 +180,7 @@ whole_front setup r from first items heeded is h = record {
 
 -- ---- what is heeded fits
 
-pub heeded_fits : (setup : Setup) (r : Replica) (message heeded : Message) → IsAddressed setup r.me message → IsPartOf setup r message heeded → MessageFits setup r.me heeded
+pub heeded_fits : (setup : Setup) (r : Replica) (message heeded : Message) → IsAddressed setup r.me message → IsPartOf setup (view_of r) message heeded → MessageFits setup r.me heeded
 heeded_fits setup r message heeded addressed part =
     let from : heeded.from ≡ message.from = ap (λ (m : Message). m.from) part.all_else in
     let wants = fitting_fit setup (take 8 message.wants) heeded.wants part.wants in
@@ -196,39 +197,6 @@ heeded_fits setup r message heeded addressed part =
       few_wants = omega (arith, wants.1, length-take 8 message.wants);
     }
 
--- ---- the same by another store
-
--- where what would be held is the same, the same may be applied
-may_apply_like : (setup : Setup) (a b : Replica) (from : ℕ) (items : List LogItem) → ((items : List LogItem) (cell : Cell) → held_after setup a items cell ≡ held_after setup b items cell) → MayApply setup a from items → MayApply setup b from items
-may_apply_like setup a b from items same h = record {
-  first = h.first;
-  row = h.row;
-  fits = h.fits;
-  accepted = λ k item there cell differs.
-      let before : List LogItem = take k items in
-      let one = same before cell in
-      let two = same (before ++ item ∷ []) cell in
-      let upto = h.accepted k item there cell (λ equal. differs (omega (arith, one, two, equal))) in
-      omega (arith, two, upto);
-}
-
--- and the same is heeded
-pub heeds_like : (setup : Setup) (a b : Replica) (message heeded : Message) → ((items : List LogItem) (cell : Cell) → held_after setup a items cell ≡ held_after setup b items cell) → a.me ≡ b.me → Heeds setup a message heeded → Heeds setup b message heeded
-heeds_like setup a b message heeded same me (inl (addressed, part)) = inl (
-  subst (λ i. IsAddressed setup i message) me addressed,
-  record {
-    items = record {
-      rest = part.items.rest;
-      front = part.items.front;
-      may = may_apply_like setup a b message.from heeded.items same part.items.may;
-      longest = λ item behind is may. part.items.longest item behind is (may_apply_like setup b a message.from (heeded.items ++ item ∷ []) (λ items cell. sym (same items cell)) may);
-    };
-    wants = part.wants;
-    all_else = part.all_else;
-  },
-)
-heeds_like setup a b message heeded same me (inr (astray, is)) = inr (λ addressed. astray (subst (λ i. IsAddressed setup i message) (sym me) addressed), is)
-
 -- ---- what is heeded whole
 
 fits_all : (setup : Setup) (wants : List Want) → AllByRecursion (WantFits setup) wants → AreFitting setup wants wants
@@ -236,8 +204,8 @@ fits_all setup [] all = refl
 fits_all setup (want ∷ wants) all = inl (all.0, wants, refl, fits_all setup wants all.1)
 
 -- a message of which all that wasn't seen can be accepted is itself heeded
-pub heeds_itself : (setup : Setup) (r : Replica) (message : Message) → MessageFits setup r.me message → ((k : ℕ) (item : LogItem) → slice_get message.items k ≡ Some item → CanAccept setup r (take k message.items) item)
-    → Heeds setup r message message
+pub heeds_itself : (setup : Setup) (r : Replica) (message : Message) → MessageFits setup r.me message → ((k : ℕ) (item : LogItem) → slice_get message.items k ≡ Some item → CanAccept setup (view_of r) (take k message.items) item)
+    → Heeds setup (view_of r) message message
 heeds_itself setup r message fits can = inl (
   record { sender = fits.sender; other = fits.other; receiver = fits.receiver; cut = fits.cut },
   record {
@@ -253,8 +221,8 @@ heeds_itself setup r message fits can = inl (
 )
 
 -- and nothing else of it
-pub heeded_whole : (setup : Setup) (r : Replica) (message heeded : Message) → MessageFits setup r.me message → ((k : ℕ) (item : LogItem) → slice_get message.items k ≡ Some item → CanAccept setup r (take k message.items) item)
-    → Heeds setup r message heeded → heeded ≡ message
+pub heeded_whole : (setup : Setup) (r : Replica) (message heeded : Message) → MessageFits setup r.me message → ((k : ℕ) (item : LogItem) → slice_get message.items k ≡ Some item → CanAccept setup (view_of r) (take k message.items) item)
+    → Heeds setup (view_of r) message heeded → heeded ≡ message
 heeded_whole setup r message heeded fits can (inr (astray, is)) = absurd (astray (record { sender = fits.sender; other = fits.other; receiver = fits.receiver; cut = fits.cut }))
 heeded_whole setup r message heeded fits can (inl (addressed, part)) =
     let all : take 16 message.items ≡ message.items = take_all 16 message.items fits.few_items in
@@ -264,8 +232,8 @@ heeded_whole setup r message heeded fits can (inl (addressed, part)) =
     let wants : heeded.wants ≡ message.wants = all_fitting setup message.wants heeded.wants fits.wants (subst (λ (l : List Want). AreFitting setup l heeded.wants) eight part.wants) in
     part.all_else ∙ ap (λ (l : List LogItem). let m : Message = record message { items = l; wants = heeded.wants } in m) items ∙ ap (λ (l : List Want). let m : Message = record message { wants = l } in m) wants
   where
-    none_behind : (front rest items : List LogItem) → items ≡ front ++ rest → AllByRecursion (ItemFits setup) items → AreInRow message.from fits.first items → ((k : ℕ) (item : LogItem) → slice_get items k ≡ Some item → CanAccept setup r (take k items) item)
-        → ((item : LogItem) (behind : List LogItem) → rest ≡ item ∷ behind → MayApply setup r message.from (front ++ item ∷ []) → ⊥) → front ≡ items
+    none_behind : (front rest items : List LogItem) → items ≡ front ++ rest → AllByRecursion (ItemFits setup) items → AreInRow message.from fits.first items → ((k : ℕ) (item : LogItem) → slice_get items k ≡ Some item → CanAccept setup (view_of r) (take k items) item)
+        → ((item : LogItem) (behind : List LogItem) → rest ≡ item ∷ behind → MayApply setup (view_of r) message.from (front ++ item ∷ []) → ⊥) → front ≡ items
     none_behind front [] items is all row can longest = sym (is ∙ append-nil front)
     none_behind front (x ∷ rest) items is all row can longest =
         let more : items ≡ (front ++ x ∷ []) ++ rest = is ∙ sym (append_assoc front (x ∷ []) rest) in
@@ -276,7 +244,7 @@ heeded_whole setup r message heeded fits can (inl (addressed, part)) =
           accepted = λ k item there.
               let within = slice_get_within (front ++ x ∷ []) k item there in
               let same : take k items ≡ take k (front ++ x ∷ []) = ap (take k) more ∙ take_front (front ++ x ∷ []) rest k (omega (arith, within)) in
-              subst (λ (l : List LogItem). CanAccept setup r l item) same (can k item (ap (λ (l : List LogItem). slice_get l k) more ∙ get_front (front ++ x ∷ []) rest k item there));
+              subst (λ (l : List LogItem). CanAccept setup (view_of r) l item) same (can k item (ap (λ (l : List LogItem). slice_get l k) more ∙ get_front (front ++ x ∷ []) rest k item there));
         }))
       where
         each_front : (P : LogItem → Type 0) (xs ys : List LogItem) → AllByRecursion P (xs ++ ys) → AllByRecursion P xs

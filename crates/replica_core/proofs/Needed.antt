@@ -32,7 +32,8 @@ use Rattle.run_model.specs.Fitting.{WantFits}
 use Rattle.run_model.proofs.Lists.{each_append}
 use Rattle.causal_store.specs.Stores.{IsStore, state_truths}
 use Rattle.replica_core.specs.Tables.{HasLowsAlone, NeedFits, low_need}
-use Rattle.replica_core.specs.Replicas.{HasAnswered, HasLogged, IsReplica, holds_of, item_of, known_to, own_log, standing_of}
+use Rattle.replica_core.specs.Views.{item_of}
+use Rattle.replica_core.specs.Replicas.{HasAnswered, HasLogged, IsReplica, holds_of, known_to, own_log, standing_of, view_of}
 use Rattle.replica_core.specs.Decisions.{broken_here}
 use Rattle.replica_core.specs.declared.replica.Replica.{Replica}
 use Rattle.replica_core.proofs.Changes.{set_back}
@@ -168,14 +169,14 @@ abbrev pub needs_here : Setup → Inst → Replica → List Need
 needs_here setup inst r = needs setup (state_truths setup.spec r.store) inst
 
 -- where no clause would break, what is needed decides
-unbroken : (setup : Setup) (inst : Inst) (old new : Replica) (outcome : Outcome) (stamp : ℕ) (sendings : List Sending) → broken_here setup inst old ≡ None
+unbroken : (setup : Setup) (inst : Inst) (old new : Replica) (outcome : Outcome) (stamp : ℕ) (sendings : List Sending) → broken_here setup inst (view_of old) ≡ None
     → Requested old.me inst None (first_lacking setup.replicas (holds_of setup old) (needs_here setup inst old)) (standing_of stamp sendings old) outcome (standing_of stamp sendings new)
     → Requests setup (known_to old) old.me inst (standing_of stamp sendings old) outcome (standing_of stamp sendings new)
 unbroken setup inst old new outcome stamp sendings whole is =
     subst (λ b. Requested old.me inst b (first_lacking setup.replicas (holds_of setup old) (needs_here setup inst old)) (standing_of stamp sendings old) outcome (standing_of stamp sendings new)) (sym whole) is
 
 -- where one would, nothing changes
-pub answered_breaks : (setup : Setup) (r : Replica) (inst : Inst) (broken : Broken) → IsReplica setup r.me r → broken_here setup inst r ≡ Some broken → HasAnswered setup inst r (outcomes.Breaks broken) r
+pub answered_breaks : (setup : Setup) (r : Replica) (inst : Inst) (broken : Broken) → IsReplica setup r.me r → broken_here setup inst (view_of r) ≡ Some broken → HasAnswered setup inst r (outcomes.Breaks broken) r
 answered_breaks setup r inst broken own is = record {
   own = own;
   requests = λ stamp sendings.
@@ -185,7 +186,7 @@ answered_breaks setup r inst broken own is = record {
 }
 
 -- short of a need, which is wanted
-pub answered_short : (setup : Setup) (inst : Inst) (old new : Replica) (l : Lacking) → IsReplica setup old.me old → WantFits setup (want_of l.need) → broken_here setup inst old ≡ None
+pub answered_short : (setup : Setup) (inst : Inst) (old new : Replica) (l : Lacking) → IsReplica setup old.me old → WantFits setup (want_of l.need) → broken_here setup inst (view_of old) ≡ None
     → Some l ≡ first_lacking setup.replicas (holds_of setup old) (needs_here setup inst old) → new ≡ record old { wants = noted old.wants (want_of l.need) } → HasAnswered setup inst old (outcomes.Short l) new
 answered_short setup inst old new l own fits whole is becomes =
     let want : Want = want_of l.need in
@@ -200,11 +201,11 @@ answered_short setup inst old new l own fits whole is becomes =
     set_log r = slice_set (known_to old) r.me (own_log r)
 
 -- done where nothing is lacking
-pub answered_done : (setup : Setup) (inst : Inst) (old new : Replica) (index : ℕ) → index ≡ length (own_log old) → broken_here setup inst old ≡ None → None ≡ first_lacking setup.replicas (holds_of setup old) (needs_here setup inst old) → HasLogged setup (body.Act inst) old new
+pub answered_done : (setup : Setup) (inst : Inst) (old new : Replica) (index : ℕ) → index ≡ length (own_log old) → broken_here setup inst (view_of old) ≡ None → None ≡ first_lacking setup.replicas (holds_of setup old) (needs_here setup inst old) → HasLogged setup (body.Act inst) old new
     → HasAnswered setup inst old (outcomes.Done index) new
 answered_done setup inst old new index at whole is h = record {
   own = h.own;
   requests = λ stamp sendings. unbroken setup inst old new (outcomes.Done index) stamp sendings whole (subst (λ o. Requested old.me inst None o (standing_of stamp sendings old) (outcomes.Done index) (standing_of stamp sendings new)) is (ap outcomes.Done at, h.stands stamp sendings));
   knows = h.knows;
-  grown = omega (arith, ap (λ (p : Standing). length p.log) (h.stands 0 []), length-append (own_log old) (item_of old (body.Act inst) ∷ []));
+  grown = omega (arith, ap (λ (p : Standing). length p.log) (h.stands 0 []), length-append (own_log old) (item_of (view_of old) (body.Act inst) ∷ []));
 }

@@ -27,7 +27,8 @@ use Rattle.run_model.proofs.Lists.{each_append, each_at, each_weaker}
 use Rattle.run_model.proofs.Escrow.{same_right_is}
 use Rattle.run_model.proofs.Agreed.{AllAgree, gains_all_agree}
 use Rattle.causal_store.specs.Stores.{IsStore}
-use Rattle.replica_core.specs.Replicas.{HasLogged, HasRoom, IsKnown, IsReplica, item_of, known_to, own_log, standing_of}
+use Rattle.replica_core.specs.Views.{item_of}
+use Rattle.replica_core.specs.Replicas.{HasLogged, HasRoom, IsKnown, IsReplica, known_to, own_log, standing_of, view_of}
 use Rattle.replica_core.specs.Tables.{AsksCount, HasLowsAlone, IsLow}
 use Rattle.replica_core.specs.Decisions.{AreNext, IsNext}
 use Rattle.replica_core.specs.declared.replica.Replica.{Replica}
@@ -39,7 +40,7 @@ use Rattle.replica_core.proofs.Lows.{want_low}
 -- ---- one item
 
 -- the next item of a replica fits the store
-pub next_fits : (r : Replica) (b : Body) (item : LogItem) → IsStore (length (known_to r)) r.store → r.me < length (known_to r) → item ≡ item_of r b → HasRoom 1 r → IsPlaced (length (known_to r)) item
+pub next_fits : (r : Replica) (b : Body) (item : LogItem) → IsStore (length (known_to r)) r.store → r.me < length (known_to r) → item ≡ item_of (view_of r) b → HasRoom 1 r → IsPlaced (length (known_to r)) item
 next_fits r b item store place is room = subst (IsPlaced (length (known_to r))) (sym is) (record {
   origin = place;
   small = room;

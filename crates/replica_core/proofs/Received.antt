@@ -25,7 +25,7 @@ use Rattle.causal_store.specs.Stores.{IsStore, cut_in}
 use Rattle.causal_store.proofs.Stored.{each_log, each_set}
 use Rattle.causal_delivery.specs.Rows.{AreOfOne}
 use Rattle.replica_core.specs.Tables.{AreHeld}
-use Rattle.replica_core.specs.Replicas.{AreCovered, CanLearn, HasLearned, HasLoggedAll, KnowsOwn, IsKnown, IsReplica, known_to, own_log, standing_of, with_items}
+use Rattle.replica_core.specs.Replicas.{AreCovered, CanLearn, HasLearned, HasLoggedAll, IsKnown, IsReplica, KnowsOwn, known_to, own_log, standing_of, with_items}
 use Rattle.replica_core.specs.declared.replica.Replica.{Replica}
 use Rattle.replica_core.proofs.Alike.{HasGrown, IsEarly, row_early}
 use Rattle.replica_core.proofs.Logged.{count_at, cut_long}

@@ -2,7 +2,7 @@
 use Rattle.std.proofs.Common.{◌≡◌, ◌≢◌, inl, inr, ℕ, zero, suc, ◌+◌, ◌<◌, ◌≤◌, List, [], ◌∷◌, ◌++◌, length, get_or, map, replicate, set, take, drop, refl, sym, ap, subst, ◌∙◌, arith, length-append, length-set}
 use Rattle.std.specs.Prelude.{All, Some, slice_get, slice_index, slice_set}
 use Rattle.std.specs.List.{AllByRecursion, flat_map}
-use Rattle.std.proofs.lemmas.List.{append_assoc, append-nil, get_or-set_same, get_or-set_other}
+use Rattle.std.proofs.lemmas.List.{append_assoc, length-map, append-nil, get_or-set_same, get_or-set_other}
 use Rattle.std.proofs.lemmas.List.Concat.{flat_map-cons}
 use Rattle.std.proofs.lemmas.Grind.{flat_map-append}
 use Rattle.std.proofs.lemmas.Option.{slice_get_within}
@@ -15,6 +15,7 @@ use Rattle.spec_model.specs.declared.log.LogItem.{LogItem}
 use Rattle.run_model.specs.declared.batch.Batch.{Batch}
 use Rattle.run_model.specs.declared.message.Message.{Message}
 use Rattle.run_model.specs.Logs.{Logs, item_at, log_at}
+use Rattle.run_model.specs.Wants.{still_wanted}
 use Rattle.run_model.specs.Worlds.{Standing, logged, logged_all}
 use Rattle.run_model.specs.Steps.{AreAdmitted, accepts_of, cut_after}
 use Rattle.run_model.specs.Fitting.{AreInRow, MessageFits}
@@ -22,15 +23,19 @@ use Rattle.run_model.proofs.Lists.{each_append, each_weaker}
 use Rattle.causal_store.specs.Stores.{IsStore, cut_in}
 use Rattle.replica_core.specs.declared.decision.Decision.TheVariants as decision
 use Rattle.replica_core.specs.declared.replica.Replica.{Replica}
-use Rattle.replica_core.specs.Decisions.{AreNext, Decides, IsDecided, StaysSame}
-use Rattle.replica_core.specs.Recovered.{AreDecided, HasReplayed}
+use Rattle.replica_core.specs.declared.decision.Taken.{Taken}
+use Rattle.replica_core.specs.Decisions.{AreNext, Decides, IsDecided, Splits, StaysSame}
+use Rattle.replica_core.specs.Laws.{CommitsMore}
+use Rattle.replica_core.specs.Recovered.{AreCommitted, AreDecided, HasReplayed, logs_after, no_logs}
+use Rattle.replica_core.specs.Views.{View, seeing}
 use Rattle.causal_store.specs.Agreeing.{with_all}
-use Rattle.replica_core.specs.Replicas.{CanLearn, HasLearned, HasLoggedAll, IsKnown, IsReplica, known_to, own_log, standing_of, with_items}
-use Rattle.replica_core.proofs.Changes.{items_for, items_long, logged_items, set_again}
-use Rattle.replica_core.proofs.Committed.{act_next, back_of, before_of, decided_parts, front_of, start_of, stays_same}
+use Rattle.replica_core.specs.Replicas.{CanLearn, HasLearned, HasLoggedAll, IsKnown, IsReplica, holds_of, known_to, own_log, standing_of, view_of, with_items}
+use Rattle.replica_core.proofs.Changes.{longer_by, own_again, items_for, items_long, logged_items, set_again}
+use Rattle.replica_core.proofs.Committed.{accepts_next, act_next, drops_of, outs_next, received_of, back_of, before_of, decided_parts, front_of, start_of, stays_same}
+use Rattle.replica_core.proofs.Finished.{left_own}
 use Rattle.replica_core.proofs.Lists.{drop_at_item, take_more}
 use Rattle.replica_core.proofs.Next.{accepts_free, free_next, gives_few, gives_for, gives_next}
-use Rattle.replica_core.proofs.Received.{Learns, accepts_few, can_learn, cut_counts, items_placed, learned_cut, learned_replica, part_of}
+use Rattle.replica_core.proofs.Received.{Admits, Learns, mid_learns, mid_own, mid_part, accepts_few, can_learn, cut_counts, items_placed, learned_cut, learned_replica, part_of}
 use Rattle.replica_core.proofs.Silent.{heeded_or_nothing}
 
 -- ---- logs with more items
@@ -108,7 +113,7 @@ pub record Replays (setup : Setup) (r : Replica) (items front own : List LogItem
   pub can : CanLearn r front
   pub applied : (learned : Replica) → HasLearned front r learned → Applied setup r learned front own
 
-act_replays : (setup : Setup) (r : Replica) (inst : Inst) (batch : Batch) → IsReplica setup r.me r → InstFits setup.spec inst → Decides setup inst r (decision.Act batch) → Replays setup r batch.items [] batch.items
+act_replays : (setup : Setup) (r : Replica) (inst : Inst) (batch : Batch) → IsReplica setup r.me r → InstFits setup.spec inst → Decides setup inst (view_of r) (decision.Act batch) → Replays setup r batch.items [] batch.items
 act_replays setup r inst batch own fits decides =
     let known : Logs = known_to r in
     let place : r.me < length known = omega (arith, own.store.whole, own.within) in
@@ -125,9 +130,9 @@ act_replays setup r inst batch own fits decides =
           let stays = stays_same setup r learned own h.kept same cut in
           record {
             is = stays.own;
-            next = act_next setup learned inst batch batch.items fits (stays.decides inst (decision.Act batch) decides) refl;
+            next = act_next setup learned inst batch batch.items fits (subst (λ (v : View). Decides setup inst v (decision.Act batch)) (sym stays.view) decides) refl;
             knows = same;
-            log = ap (log_at (known_to learned)) stays.me ∙ ap (λ (l : Logs). log_at l r.me) same;
+            log = ap (log_at (known_to learned)) (ap (λ (v : View). v.me) stays.view) ∙ ap (λ (l : Logs). log_at l r.me) same;
           };
     }
 
@@ -213,12 +218,12 @@ nothing_replays setup r items own none =
             is = stays.own;
             next = tt;
             knows = same;
-            log = ap (log_at (known_to learned)) stays.me ∙ ap (λ (l : Logs). log_at l r.me) same;
+            log = ap (log_at (known_to learned)) (ap (λ (v : View). v.me) stays.view) ∙ ap (λ (l : Logs). log_at l r.me) same;
           };
     }
 
 -- a batch that it decided on can be replayed
-pub decided_replays : (setup : Setup) (r : Replica) (batch : Batch) → IsReplica setup r.me r → IsDecided setup r batch → (front : List LogItem) × (own : List LogItem) × Replays setup r batch.items front own
+pub decided_replays : (setup : Setup) (r : Replica) (batch : Batch) → IsReplica setup r.me r → IsDecided setup (view_of r) batch → (front : List LogItem) × (own : List LogItem) × Replays setup r batch.items front own
 decided_replays setup r batch own (inl act) = ([], batch.items, act_replays setup r act.0 batch own act.1 act.2)
 decided_replays setup r batch own (inr (message, taken, takes, is)) = elim (heeded_or_nothing setup r message taken takes) [
   | inl (heeded, fits, decided) ↦
@@ -230,7 +235,7 @@ decided_replays setup r batch own (inr (message, taken, takes, is)) = elim (heed
 ]
 
 -- it is short
-pub decided_short : (setup : Setup) (r : Replica) (batch : Batch) → IsReplica setup r.me r → IsDecided setup r batch → length batch.items ≤ 40
+pub decided_short : (setup : Setup) (r : Replica) (batch : Batch) → IsReplica setup r.me r → IsDecided setup (view_of r) batch → length batch.items ≤ 40
 decided_short setup r batch own decided =
     let halves = decided_replays setup r batch own decided in
     omega (arith, ap length halves.2.items_are, length-append halves.0 halves.1, halves.2.few, halves.2.few_learned)
@@ -268,29 +273,60 @@ pub logged_keeps : (me : ℕ) (bodies : List Body) (p : Standing) → ((logged_a
 logged_keeps me [] p = (refl, refl, refl)
 logged_keeps me (b ∷ bodies) p = logged_keeps me bodies (logged me b p)
 
+-- the logs that are known once it has logged its next items
+pub logged_known : (setup : Setup) (items : List LogItem) (old new : Replica) → IsReplica setup old.me old → AreNext setup (known_to old) old.me (standing_of 0 [] old) items → HasLoggedAll setup (map (λ (i : LogItem). i.body) items) old new
+    → known_to new ≡ with_all items (known_to old)
+logged_known setup items old new own next logged =
+    let me : ℕ = old.me in
+    let known : Logs = known_to old in
+    let bodies : List Body = map (λ (i : LogItem). i.body) items in
+    let p : Standing = standing_of 0 [] old in
+    let made : items_for me bodies p ≡ items = next_items setup known me p items next in
+    let log : own_log new ≡ own_log old ++ items = ap (λ (q : Standing). q.log) (logged.stands 0 []) ∙ logged_items me bodies p ∙ ap (λ (l : List LogItem). own_log old ++ l) made in
+    logged.knows ∙ ap (λ i. slice_set known i (own_log new)) logged.own.me_is ∙ ap (slice_set known me) log
+    ∙ sym (with_all_of me items known (subst (AllByRecursion (λ (i : LogItem). i.origin ≡ me)) made (own_origin me bodies p)) (omega (arith, own.store.whole, own.within)))
+
 pub has_replayed : (setup : Setup) (items front own : List LogItem) (old learned new : Replica) → Replays setup old items front own → HasLearned front old learned → HasLoggedAll setup (map (λ (i : LogItem). i.body) own) learned new → HasReplayed setup items old new
 has_replayed setup items front own old learned new h learns logged =
     let applied = h.applied learned learns in
-    let me : ℕ = learned.me in
     let bodies : List Body = map (λ (i : LogItem). i.body) own in
     let p : Standing = standing_of 0 [] learned in
-    let mine : me ≡ old.me = applied.is.me_is in
-    let new_me : new.me ≡ me = logged.own.me_is in
-    let place : me < length (known_to learned) = omega (arith, applied.is.store.whole, applied.is.within, mine) in
-    let log : own_log new ≡ own_log learned ++ own = ap (λ (q : Standing). q.log) (logged.stands 0 []) ∙ logged_items me bodies p ∙ ap (λ (l : List LogItem). own_log learned ++ l) (next_items setup (known_to learned) me p own applied.next) in
-    let all_mine : AllByRecursion (λ (i : LogItem). i.origin ≡ me) own = subst (λ m. AllByRecursion (λ (i : LogItem). i.origin ≡ m) own) (sym mine) h.mine in
-    let keeps = logged_keeps me bodies p in
+    let mine : learned.me ≡ old.me = applied.is.me_is in
+    let known = logged_known setup own learned new (subst (λ i. IsReplica setup i learned) (sym mine) applied.is) applied.next logged in
+    let longer = longer_by setup bodies learned new logged in
+    let keeps = logged_keeps learned.me bodies p in
     record {
       own = subst (λ i. IsReplica setup i new) mine logged.own;
-      knows = logged.knows ∙ ap (λ i. slice_set (known_to learned) i (own_log new)) new_me ∙ ap (slice_set (known_to learned) me) log ∙ sym (with_all_of me own (known_to learned) all_mine place)
-          ∙ ap (with_all own) applied.knows ∙ sym (with_all_append front own (known_to old)) ∙ ap (λ (l : List LogItem). with_all l (known_to old)) (sym h.items_are);
+      knows = known ∙ ap (with_all own) applied.knows ∙ sym (with_all_append front own (known_to old)) ∙ ap (λ (l : List LogItem). with_all l (known_to old)) (sym h.items_are);
       wants = ap (λ (q : Standing). q.wants) (logged.stands 0 []) ∙ keeps.0 ∙ ap (λ (r : Replica). r.wants) learns.kept;
       told = ap (λ (q : Standing). q.told) (logged.stands 0 []) ∙ keeps.1 ∙ ap (λ (r : Replica). r.told) learns.kept;
-      grown = omega (arith, ap length log, length-append (own_log learned) own, ap length applied.log, h.few);
+      grown = omega (arith, longer, length-map own (λ (i : LogItem). i.body), ap length applied.log, h.few);
     }
 
+-- and once it has applied items of a message
+pub learned_known : (setup : Setup) (message : Message) (old heard learned : Replica) (front : List LogItem) → Admits setup old.me message old heard front → HasLearned front heard learned → known_to learned ≡ with_all front (known_to old)
+learned_known setup message old heard learned front h learns =
+    let own = mid_own setup old.me message old heard front h in
+    let part = mid_part setup old.me message old heard front h in
+    (mid_learns setup old.me message old heard learned front h learns).logs
+    ∙ sym (with_all_of message.from front (known_to heard) (row_origin message.from (slice_index (cut_in heard.store) message.from) front part.row) (omega (arith, h.fits.sender, own.store.whole)))
+    ∙ ap (with_all front) (ap known_to h.heard)
+
+-- and once it has done all that it decided on a message
+pub taken_known : (setup : Setup) (message : Message) (old heard learned mid left new : Replica) (taken : Taken) (front accepts outs : List LogItem) → Splits setup message old taken front accepts outs → Admits setup old.me message old heard front → HasLearned front heard learned
+    → HasLoggedAll setup (map (λ (i : LogItem). i.body) accepts) learned mid → left ≡ record mid { wants = still_wanted setup.replicas (holds_of setup mid) mid.wants } → HasLoggedAll setup (map (λ (i : LogItem). i.body) outs) left new
+    → known_to new ≡ with_all (front ++ (accepts ++ outs)) (known_to old)
+taken_known setup message old heard learned mid left new taken front accepts outs splits admits learns accepted is gave =
+    let it : Learns setup old.me message.from front heard learned = mid_learns setup old.me message old heard learned front admits learns in
+    let received = received_of setup message old heard learned mid taken front accepts outs splits admits learns accepted in
+    let drops = drops_of setup message old mid left front received is in
+    let first = logged_known setup accepts learned mid (own_again setup old.me learned (learned_replica setup old.me message.from front heard learned it)) (accepts_next setup message old heard learned taken front accepts outs splits admits it) accepted in
+    let last = logged_known setup outs left new (left_own setup message old mid left front drops) (outs_next setup message old mid left taken front accepts outs splits drops) gave in
+    last ∙ ap (with_all outs) (ap known_to is ∙ first ∙ ap (with_all accepts) (learned_known setup message old heard learned front admits learns))
+    ∙ sym (with_all_append front (accepts ++ outs) (known_to old) ∙ with_all_append accepts outs (with_all front (known_to old)))
+
 -- the batch, cut in code where the first own item stands
-pub replays_here : (setup : Setup) (r : Replica) (batch : Batch) (items front own : List LogItem) (n : ℕ) → IsReplica setup r.me r → IsDecided setup r batch → items ≡ batch.items → front ≡ take n items → own ≡ drop n items
+pub replays_here : (setup : Setup) (r : Replica) (batch : Batch) (items front own : List LogItem) (n : ℕ) → IsReplica setup r.me r → IsDecided setup (view_of r) batch → items ≡ batch.items → front ≡ take n items → own ≡ drop n items
     → All (λ i. i.origin ≢ r.me) (take n items) → ((x : LogItem) → slice_get items n ≡ Some x → x.origin ≡ r.me) → n ≤ length items → Replays setup r batch.items front own
 replays_here setup r batch items front own n is decided same front_is own_is before here within =
     let halves = decided_replays setup r batch is decided in
@@ -304,18 +340,20 @@ replays_here setup r batch items front own n is decided same front_is own_is bef
     subst (λ (l : List LogItem). Replays setup r batch.items front l) own_same (subst (λ (l : List LogItem). Replays setup r batch.items l o) front_same h)
 
 -- with room made it decides the same
-pub decided_stays : (setup : Setup) (old new : Replica) (batch : Batch) → StaysSame setup old new → IsDecided setup old batch → IsDecided setup new batch
-decided_stays setup old new batch same (inl act) = inl (act.0, act.1, same.decides act.0 (decision.Act batch) act.2)
-decided_stays setup old new batch same (inr (message, taken, takes, is)) = inr (message, taken, record { heeded = takes.heeded; heeds = same.heeds message takes.heeded takes.heeds; takes = same.taken takes.heeded taken takes.takes }, is)
+pub decided_stays : (setup : Setup) (old new : Replica) (batch : Batch) → StaysSame setup old new → IsDecided setup (view_of old) batch → IsDecided setup (view_of new) batch
+decided_stays setup old new batch same decided = subst (λ (v : View). IsDecided setup v batch) (sym same.view) decided
 
 pub replayed_stays : (setup : Setup) (items : List LogItem) (old mid new : Replica) → StaysSame setup old mid → HasReplayed setup items mid new → HasReplayed setup items old new
-replayed_stays setup items old mid new same h = record {
-  own = subst (λ i. IsReplica setup i new) same.me h.own;
-  knows = h.knows ∙ ap (with_all items) same.knows;
-  wants = h.wants ∙ same.wants;
-  told = h.told ∙ same.told;
-  grown = omega (arith, h.grown, ap length (ap (log_at (known_to mid)) same.me ∙ ap (λ (l : Logs). log_at l old.me) same.knows));
-}
+replayed_stays setup items old mid new same h =
+    let me : mid.me ≡ old.me = ap (λ (v : View). v.me) same.view in
+    let knows : known_to mid ≡ known_to old = ap (λ (v : View). v.known) same.view in
+    record {
+      own = subst (λ i. IsReplica setup i new) me h.own;
+      knows = h.knows ∙ ap (with_all items) knows;
+      wants = h.wants ∙ same.wants;
+      told = h.told ∙ same.told;
+      grown = omega (arith, h.grown, ap length (ap (log_at (known_to mid)) me ∙ ap (λ (l : Logs). log_at l old.me) knows));
+    }
 
 -- one batch more
 pub all_more : (batches : List Batch) (k : ℕ) (x : Batch) (logs : Logs) → k < length batches → x ≡ get_or batches k x → with_all x.items (with_all (flat_map (λ b. b.items) (take k batches)) logs) ≡ with_all (flat_map (λ b. b.items) (take (k + 1) batches)) logs
@@ -324,5 +362,36 @@ all_more batches k x logs lt is =
     sym (with_all_append (flat_map f (take k batches)) x.items logs)
     ∙ ap (λ (l : List LogItem). with_all l logs) (sym (ap (flat_map f) (take_more batches k x lt is) ∙ flat_map-append f (take k batches) (x ∷ []) ∙ ap (λ (l : List LogItem). flat_map f (take k batches) ++ l) (flat_map-cons f x [] ∙ append-nil x.items)))
 
-pub decided_next : (setup : Setup) (r : Replica) (batches : List Batch) (k : ℕ) (x : Batch) → k < length batches → x ≡ get_or batches k x → AreDecided setup r (drop k batches) → AreDecided setup r (x ∷ drop (k + 1) batches)
-decided_next setup r batches k x lt is = subst (AreDecided setup r) (drop_at_item batches k x lt is)
+-- a replica sees all that it knows
+pub view_is : (setup : Setup) (me : ℕ) (r : Replica) → IsReplica setup me r → view_of r ≡ seeing me (known_to r)
+view_is setup me r own =
+    ap (λ i. let v : View = record { me = i; known = known_to r; cut = cut_in r.store } in v) own.me_is ∙ ap (λ (k : List ℕ). let v : View = record { me = me; known = known_to r; cut = k } in v) own.store.counts
+
+-- so it decides on the next of the batches that it has yet to replay
+pub decided_next : (setup : Setup) (me : ℕ) (r : Replica) (batches : List Batch) (k : ℕ) (x : Batch) → IsReplica setup me r → k < length batches → x ≡ get_or batches k x → AreDecided setup me (known_to r) (drop k batches)
+    → IsDecided setup (view_of r) x × AreDecided setup me (with_all x.items (known_to r)) (drop (k + 1) batches)
+decided_next setup me r batches k x own lt is rest =
+    let all = subst (AreDecided setup me (known_to r)) (drop_at_item batches k x lt is) rest in
+    (subst (λ (v : View). IsDecided setup v x) (sym (view_is setup me r own)) all.0, all.1)
+
+-- ---- one batch more is committed
+
+decided_push : (setup : Setup) (me : ℕ) (logs : Logs) (batches : List Batch) (batch : Batch) → AreDecided setup me logs batches → IsDecided setup (seeing me (with_all (flat_map (λ b. b.items) batches) logs)) batch → AreDecided setup me logs (batches ++ batch ∷ [])
+decided_push setup me logs [] batch decided last = (last, tt)
+decided_push setup me logs (x ∷ batches) batch decided last =
+    let items : Batch → List LogItem = λ b. b.items in
+    let same : with_all (flat_map items (x ∷ batches)) logs ≡ with_all (flat_map items batches) (with_all x.items logs) = ap (λ (l : List LogItem). with_all l logs) (flat_map-cons items x batches) ∙ with_all_append x.items (flat_map items batches) logs in
+    (decided.0, decided_push setup me (with_all x.items logs) batches batch decided.1 (subst (λ (l : Logs). IsDecided setup (seeing me l) batch) same last))
+
+pub commits_more : CommitsMore
+commits_more setup batches batch old new h decided own knows =
+    let items : Batch → List LogItem = λ b. b.items in
+    let n : ℕ = setup.replicas in
+    let all : flat_map items (batches ++ batch ∷ []) ≡ flat_map items batches ++ batch.items =
+    flat_map-append items batches (batch ∷ []) ∙ ap (λ (l : List LogItem). flat_map items batches ++ l) (flat_map-cons items batch [] ∙ append-nil batch.items) in
+    let here : IsDecided setup (seeing old.me (logs_after n batches)) batch = subst (λ (v : View). IsDecided setup v batch) (view_is setup old.me old h.own ∙ ap (seeing old.me) h.knows) decided in
+    record {
+      own = subst (λ i. IsReplica setup i new) (sym own.me_is) own;
+      decided = subst (λ i. AreCommitted setup i (batches ++ batch ∷ [])) (sym own.me_is) (decided_push setup old.me (no_logs n) batches batch h.decided here);
+      knows = knows ∙ ap (with_all batch.items) h.knows ∙ sym (with_all_append (flat_map items batches) batch.items (no_logs n)) ∙ ap (λ (l : List LogItem). with_all l (no_logs n)) (sym all);
+    }

@@ -11,11 +11,12 @@ use Rattle.run_model.specs.declared.step.Outcome.TheVariants as outcomes
 use Rattle.run_model.specs.Logs.{Logs}
 use Rattle.run_model.specs.Wants.{still_wanted}
 use Rattle.run_model.specs.Worlds.{Standing, joined, no_cut}
-use Rattle.run_model.specs.Steps.{Takes, accepts_of, received}
+use Rattle.run_model.specs.Steps.{accepts_of, received}
 use Rattle.run_model.specs.Fitting.{MessageFits}
+use Rattle.replica_core.specs.Views.{standing_in}
 use Rattle.replica_core.specs.Decisions.{IsTaken, TakesHeeded}
 use Rattle.replica_core.specs.Heeded.{Heeds, IsAddressed, silent}
-use Rattle.replica_core.specs.Replicas.{HasLoggedAll, HasTaken, IsReplica, holds_of, known_to, own_log, standing_of, with_items}
+use Rattle.replica_core.specs.Replicas.{HasLoggedAll, HasTaken, IsReplica, holds_of, known_to, own_log, standing_of, view_of, with_items}
 use Rattle.replica_core.specs.declared.decision.Taken.{Taken}
 use Rattle.replica_core.specs.declared.replica.Replica.{Replica}
 use Rattle.replica_core.proofs.Alike.{HasGrown, row_early}
@@ -74,32 +75,32 @@ no_items [] long = refl
 no_items (x ∷ xs) long = absurd (omega (arith, long))
 
 -- so that is what it decides
-pub takes_nothing : (setup : Setup) (message : Message) (r : Replica) (taken : Taken) → IsReplica setup r.me r → taken.batch.items ≡ [] → taken.applied ≡ 0 → taken.accepted ≡ 0 → taken.gave ≡ 0 → IsTaken setup (silent setup.replicas message) r taken
-takes_nothing setup message r taken own none applied accepted gave =
-    let quiet : Message = silent setup.replicas message in
-    let new : Replica = record r { wants = still_wanted setup.replicas (holds_of setup r) r.wants } in
-    let took = took_nothing setup message r new own refl in
-    let takes = took.takes 0 [] in
-    let nil : took.applied ≡ [] = none_of took.applied takes.admitted.rest takes.admitted.prefix in
-    let outcome : outcomes.Took message.number 0 0 0 ≡ outcomes.Took message.number taken.applied taken.accepted taken.gave =
-    ap (λ n. outcomes.Took message.number n 0 0) (sym applied) ∙ ap (λ n. outcomes.Took message.number taken.applied n 0) (sym accepted) ∙ ap (outcomes.Took message.number taken.applied taken.accepted) (sym gave) in
-    record {
-      applied = took.applied;
-      own = [];
-      after = standing_of 0 [] new;
-      takes = subst (λ (o : Outcome). Takes setup (with_items message.from took.applied (known_to r)) r.me quiet took.applied (standing_of 0 [] r) o (standing_of 0 [] new)) outcome takes;
-      longer = sym (append-nil (own_log r));
-      batch = none ∙ sym (ap (λ (l : List LogItem). l ++ []) nil);
-    }
+pub takes_nothing : (setup : Setup) (message : Message) (r : Replica) (taken : Taken) → taken.batch.items ≡ [] → taken.applied ≡ 0 → taken.accepted ≡ 0 → taken.gave ≡ 0 → IsTaken setup (silent setup.replicas message) (view_of r) taken
+takes_nothing setup message r taken none applied accepted gave = record {
+  applied = [];
+  own = [];
+  after = standing_in (view_of r);
+  takes = record {
+    gave = 0;
+    before_answers = standing_in (view_of r);
+    admitted = record { rest = []; prefix = refl; ready = tt; longest = tt };
+    before_is = refl;
+    becomes = refl;
+    gave_is = omega arith;
+    outcome_is = ap (λ n. outcomes.Took message.number n taken.accepted taken.gave) applied ∙ ap (λ n. outcomes.Took message.number 0 n taken.gave) accepted ∙ ap (outcomes.Took message.number 0 0) gave;
+  };
+  longer = sym (append-nil (own_log r));
+  batch = none;
+}
 
 -- nothing is in the batch of such a message
-pub nothing_taken : (setup : Setup) (message : Message) (r : Replica) (taken : Taken) → IsTaken setup (silent setup.replicas message) r taken → (taken.batch.items ≡ []) × (outcomes.Took message.number 0 0 0 ≡ outcomes.Took message.number taken.applied taken.accepted taken.gave)
+pub nothing_taken : (setup : Setup) (message : Message) (r : Replica) (taken : Taken) → IsTaken setup (silent setup.replicas message) (view_of r) taken → (taken.batch.items ≡ []) × (outcomes.Took message.number 0 0 0 ≡ outcomes.Took message.number taken.applied taken.accepted taken.gave)
 nothing_taken setup message r taken decided =
     let t = decided.takes in
     let nil : decided.applied ≡ [] = none_of decided.applied t.admitted.rest t.admitted.prefix in
     let accepts : accepts_of r.me decided.applied ≡ [] = ap (accepts_of r.me) nil in
     let logs : Logs = with_items message.from decided.applied (known_to r) in
-    let before : t.before_answers.log ≡ own_log r = ap (λ (p : Standing). p.log) t.before_is ∙ ap (λ (l : List LogItem). (received r.me (silent setup.replicas message) l (standing_of 0 [] r)).log) nil in
+    let before : t.before_answers.log ≡ own_log r = ap (λ (p : Standing). p.log) t.before_is ∙ ap (λ (l : List LogItem). (received r.me (silent setup.replicas message) l (standing_in (view_of r))).log) nil in
     let after : decided.after.log ≡ t.before_answers.log = ap (λ (p : Standing). p.log) t.becomes in
     let gave : t.gave ≡ 0 = omega (arith, ap length after, t.gave_is) in
     let own : decided.own ≡ [] = no_items decided.own (omega (arith, ap length decided.longer, ap length after, ap length before, length-append (own_log r) decided.own)) in (
@@ -108,23 +109,23 @@ nothing_taken setup message r taken decided =
     )
 
 -- and that is what was done
-pub nothing_done : (setup : Setup) (message : Message) (r new : Replica) (taken : Taken) → IsReplica setup r.me r → new ≡ record r { wants = still_wanted setup.replicas (holds_of setup r) r.wants } → IsTaken setup (silent setup.replicas message) r taken
+pub nothing_done : (setup : Setup) (message : Message) (r new : Replica) (taken : Taken) → IsReplica setup r.me r → new ≡ record r { wants = still_wanted setup.replicas (holds_of setup r) r.wants } → IsTaken setup (silent setup.replicas message) (view_of r) taken
     → HasTaken setup (silent setup.replicas message) r (outcomes.Took message.number taken.applied taken.accepted taken.gave) new
 nothing_done setup message r new taken own is decided = subst (λ (o : Outcome). HasTaken setup (silent setup.replicas message) r o new) (nothing_taken setup message r taken decided).1 (took_nothing setup message r new own is)
 
 -- ---- what is decided on a message that may be any
 
 -- it is what is decided on a message that fits, or nothing
-pub heeded_or_nothing : (setup : Setup) (r : Replica) (message : Message) (taken : Taken) → TakesHeeded setup r message taken
-    → ((heeded : Message) × MessageFits setup r.me heeded × IsTaken setup heeded r taken) ⊎ (taken.batch.items ≡ [])
+pub heeded_or_nothing : (setup : Setup) (r : Replica) (message : Message) (taken : Taken) → TakesHeeded setup (view_of r) message taken
+    → ((heeded : Message) × MessageFits setup r.me heeded × IsTaken setup heeded (view_of r) taken) ⊎ (taken.batch.items ≡ [])
 heeded_or_nothing setup r message taken takes = either takes.heeds takes.takes
   where
-    either : Heeds setup r message takes.heeded → IsTaken setup takes.heeded r taken → ((heeded : Message) × MessageFits setup r.me heeded × IsTaken setup heeded r taken) ⊎ (taken.batch.items ≡ [])
+    either : Heeds setup (view_of r) message takes.heeded → IsTaken setup takes.heeded (view_of r) taken → ((heeded : Message) × MessageFits setup r.me heeded × IsTaken setup heeded (view_of r) taken) ⊎ (taken.batch.items ≡ [])
     either (inl (addressed, part)) decided = inl (takes.heeded, heeded_fits setup r message takes.heeded addressed part, decided)
-    either (inr (astray, is)) decided = inr (nothing_taken setup message r taken (subst (λ (m : Message). IsTaken setup m r taken) is decided)).0
+    either (inr (astray, is)) decided = inr (nothing_taken setup message r taken (subst (λ (m : Message). IsTaken setup m (view_of r) taken) is decided)).0
 
 -- what is heeded of a message that is addressed, and of one that isn't
-pub heeded_part : (setup : Setup) (r : Replica) (message heeded : Message) → IsAddressed setup r.me message → Heeds setup r message heeded → (heeded.from ≡ message.from) × (heeded.cut ≡ message.cut) × (heeded.number ≡ message.number) × MessageFits setup r.me heeded
+pub heeded_part : (setup : Setup) (r : Replica) (message heeded : Message) → IsAddressed setup r.me message → Heeds setup (view_of r) message heeded → (heeded.from ≡ message.from) × (heeded.cut ≡ message.cut) × (heeded.number ≡ message.number) × MessageFits setup r.me heeded
 heeded_part setup r message heeded addressed (inl (here, part)) = (
   ap (λ (m : Message). m.from) part.all_else,
   ap (λ (m : Message). m.cut) part.all_else,
@@ -133,6 +134,6 @@ heeded_part setup r message heeded addressed (inl (here, part)) = (
 )
 heeded_part setup r message heeded addressed (inr (astray, is)) = absurd (astray addressed)
 
-pub heeded_nothing : (setup : Setup) (r : Replica) (message heeded : Message) → (IsAddressed setup r.me message → ⊥) → Heeds setup r message heeded → heeded ≡ silent setup.replicas message
+pub heeded_nothing : (setup : Setup) (r : Replica) (message heeded : Message) → (IsAddressed setup r.me message → ⊥) → Heeds setup (view_of r) message heeded → heeded ≡ silent setup.replicas message
 heeded_nothing setup r message heeded astray (inl (addressed, part)) = absurd (astray addressed)
 heeded_nothing setup r message heeded astray (inr (never, is)) = is

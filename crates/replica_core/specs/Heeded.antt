@@ -11,10 +11,8 @@ use Rattle.run_model.specs.Fitting.{AreInRow, ItemFits, WantFits}
 use Rattle.run_model.specs.Rights.{held_count}
 use Rattle.run_model.specs.Steps.{unseen}
 use Rattle.run_model.specs.Worlds.{no_cut}
-use Rattle.causal_store.specs.Stores.{cut_in}
 use Rattle.replica_core.specs.Drafts.{gives_to}
-use Rattle.replica_core.specs.Replicas.{known_to, own_log}
-use Rattle.replica_core.specs.declared.replica.Replica.{Replica}
+use Rattle.replica_core.specs.Views.{View, own_items}
 
 -- the message is from another replica of the setup to replica me, and tells a count of each replica's items
 pub record IsAddressed (setup : Setup) (me : ℕ) (message : Message) : Type 0 where
@@ -23,18 +21,18 @@ pub record IsAddressed (setup : Setup) (me : ℕ) (message : Message) : Type 0 w
   pub receiver : message.to ≡ me
   pub cut : length message.cut ≡ setup.replicas
 
--- how many rights to lower a cell replica r would hold, had it accepted what these items give to it and it hasn't seen
-abbrev pub held_after : Setup → Replica → List LogItem → Cell → ℕ
-held_after setup r items cell =
-    held_count setup (known_to r) r.me (own_log r) (right.Low cell) + sum_by (λ item. gives_to r.me (right.Low cell) item.body) (unseen (cut_in r.store) items)
+-- how many rights to lower a cell a replica would hold, had it accepted what these items give to it and it hasn't seen
+abbrev pub held_after : Setup → View → List LogItem → Cell → ℕ
+held_after setup v items cell =
+    held_count setup v.known v.me (own_items v) (right.Low cell) + sum_by (λ item. gives_to v.me (right.Low cell) item.body) (unseen v.cut items)
 
 -- what the item gives behind these doesn't bring what it holds of the cell past 2 ^ 62
-abbrev pub StaysSmall : Setup → Replica → List LogItem → LogItem → Cell → Type 0
-StaysSmall setup r before item cell = held_after setup r (before ++ item ∷ []) cell ≢ held_after setup r before cell → held_after setup r (before ++ item ∷ []) cell ≤ 2 ^ 62
+abbrev pub StaysSmall : Setup → View → List LogItem → LogItem → Cell → Type 0
+StaysSmall setup v before item cell = held_after setup v (before ++ item ∷ []) cell ≢ held_after setup v before cell → held_after setup v (before ++ item ∷ []) cell ≤ 2 ^ 62
 
 -- nor what it holds of any cell
-abbrev pub CanAccept : Setup → Replica → List LogItem → LogItem → Type 0
-CanAccept setup r before item = (cell : Cell) → StaysSmall setup r before item cell
+abbrev pub CanAccept : Setup → View → List LogItem → LogItem → Type 0
+CanAccept setup v before item = (cell : Cell) → StaysSmall setup v before item cell
 
 -- this item of the sender's log, with just the items of that log before it in its past
 pub record IsItem (from index : ℕ) (item : LogItem) : Type 0 where
@@ -48,24 +46,24 @@ first_at [] = 0
 first_at (item ∷ items) = item.index
 
 -- the item fits, is this one of the sender's log, and can be accepted behind these
-pub record MayFollow (setup : Setup) (r : Replica) (from index : ℕ) (before : List LogItem) (item : LogItem) : Type 0 where
+pub record MayFollow (setup : Setup) (v : View) (from index : ℕ) (before : List LogItem) (item : LogItem) : Type 0 where
   pub fits : ItemFits setup item
   pub is : IsItem from index item
-  pub accepted : CanAccept setup r before item
+  pub accepted : CanAccept setup v before item
 
--- items of this sender, seen or not, that replica r may apply: in a row in its log, each of which fits the setup and can be accepted
-pub record MayApply (setup : Setup) (r : Replica) (from : ℕ) (items : List LogItem) : Type 0 where
+-- items of this sender, seen or not, that a replica may apply: in a row in its log, each of which fits the setup and can be accepted
+pub record MayApply (setup : Setup) (v : View) (from : ℕ) (items : List LogItem) : Type 0 where
   pub first : ℕ
   pub row : AreInRow from first items
   pub fits : AllByRecursion (ItemFits setup) items
-  pub accepted : (k : ℕ) (item : LogItem) → slice_get items k ≡ Some item → CanAccept setup r (take k items) item
+  pub accepted : (k : ℕ) (item : LogItem) → slice_get items k ≡ Some item → CanAccept setup v (take k items) item
 
 -- of these items the longest front that it may apply
-pub record AreHeeded (setup : Setup) (r : Replica) (from : ℕ) (items heeded : List LogItem) : Type 0 where
+pub record AreHeeded (setup : Setup) (v : View) (from : ℕ) (items heeded : List LogItem) : Type 0 where
   pub rest : List LogItem
   pub front : items ≡ heeded ++ rest
-  pub may : MayApply setup r from heeded
-  pub longest : (item : LogItem) (behind : List LogItem) → rest ≡ item ∷ behind → MayApply setup r from (heeded ++ item ∷ []) → ⊥
+  pub may : MayApply setup v from heeded
+  pub longest : (item : LogItem) (behind : List LogItem) → rest ≡ item ∷ behind → MayApply setup v from (heeded ++ item ∷ []) → ⊥
 
 -- of these wants those that fit, in their order
 abbrev pub AreFitting : Setup → List Want → List Want → Type 0
@@ -75,8 +73,8 @@ AreFitting setup (want ∷ wants) fitting =
     ⊎ ((WantFits setup want → ⊥) × AreFitting setup wants fitting)
 
 -- of a message that is addressed at most the first 16 items and the first 8 wants
-pub record IsPartOf (setup : Setup) (r : Replica) (message heeded : Message) : Type 0 where
-  pub items : AreHeeded setup r message.from (take 16 message.items) heeded.items
+pub record IsPartOf (setup : Setup) (v : View) (message heeded : Message) : Type 0 where
+  pub items : AreHeeded setup v message.from (take 16 message.items) heeded.items
   pub wants : AreFitting setup (take 8 message.wants) heeded.wants
   pub all_else : heeded ≡ record message { items = heeded.items; wants = heeded.wants }
 
@@ -84,12 +82,12 @@ pub record IsPartOf (setup : Setup) (r : Replica) (message heeded : Message) : T
 abbrev pub silent : ℕ → Message → Message
 silent replicas message = record message { cut = no_cut replicas; items = []; wants = [] }
 
--- what replica r heeds of a message, written as a message: of one that isn't addressed to it nothing
-abbrev pub Heeds : Setup → Replica → Message → Message → Type 0
-Heeds setup r message heeded =
-    (IsAddressed setup r.me message × IsPartOf setup r message heeded)
-    ⊎ ((IsAddressed setup r.me message → ⊥) × (heeded ≡ silent setup.replicas message))
+-- what a replica heeds of a message, written as a message: of one that isn't addressed to it nothing
+abbrev pub Heeds : Setup → View → Message → Message → Type 0
+Heeds setup v message heeded =
+    (IsAddressed setup v.me message × IsPartOf setup v message heeded)
+    ⊎ ((IsAddressed setup v.me message → ⊥) × (heeded ≡ silent setup.replicas message))
 
--- replica r heeds the message whole, and nothing else of it
-abbrev pub IsHeededWhole : Setup → Replica → Message → Type 0
-IsHeededWhole setup r message = Heeds setup r message message × ((heeded : Message) → Heeds setup r message heeded → heeded ≡ message)
+-- a replica heeds the message whole, and nothing else of it
+abbrev pub IsHeededWhole : Setup → View → Message → Type 0
+IsHeededWhole setup v message = Heeds setup v message message × ((heeded : Message) → Heeds setup v message heeded → heeded ≡ message)

@@ -1,5 +1,5 @@
 -- Laws of runs, and of requests.
-use Rattle.std.specs.Prelude.{◌≡◌, ℕ, ◌<◌, ◌≤◌, ◌^◌, List, length, Some, Contains}
+use Rattle.std.specs.Prelude.{◌≡◌, ℕ, ◌<◌, ◌≤◌, ◌^◌, List, [], ◌∷◌, ◌++◌, length, Some, Contains}
 use Rattle.spec_model.specs.declared.plan.Setup.{Setup}
 use Rattle.spec_model.specs.declared.clause.Broken.{Broken}
 use Rattle.spec_model.specs.declared.instance.Cell.{Cell}
@@ -19,9 +19,12 @@ use Rattle.run_model.specs.Runs.{Runs}
 use Rattle.run_model.specs.Steps.{Hears, links_of}
 use Rattle.run_model.specs.Worlds.{Sending, World, first_world, logs_of}
 use Rattle.replica_core.specs.Tables.{HasLowsAlone}
-use Rattle.replica_core.specs.Decisions.{Decides}
+use Rattle.run_model.specs.declared.batch.Batch.{Batch}
+use Rattle.causal_store.specs.Agreeing.{with_all}
+use Rattle.replica_core.specs.Decisions.{Decides, IsDecided}
 use Rattle.replica_core.specs.Heeded.{IsHeededWhole}
-use Rattle.replica_core.specs.Replicas.{HasAnswered, IsReplica, known_to, standing_of}
+use Rattle.replica_core.specs.Replicas.{HasAnswered, IsReplica, known_to, standing_of, view_of}
+use Rattle.replica_core.specs.Recovered.{HasCommitted}
 use Rattle.replica_core.specs.declared.decision.Decision.TheVariants as decision
 use Rattle.replica_core.specs.declared.replica.Replica.{Replica}
 
@@ -45,8 +48,13 @@ MessagesAreHeeded = (setup : Setup) (entries : List StepEntry) (world : World) (
     → IsWellFormed setup.spec → HasLowsAlone setup → AsksFit setup.spec entries → setup.replicas ≤ 8 → 0 < setup.replicas → Runs setup (first_world setup.replicas) entries world
     → StandsIn world r.me (record { standing = standing_of stamp sendings r; known = known_to r }) → ((j : ℕ) → length (log_at (logs_of world) j) ≤ 4194304)
     → Hears (links_of world) r.me (asks.Take from (Some number)) (Some sent) → sent.message ≡ Some message
-    → IsHeededWhole setup r message
+    → IsHeededWhole setup (view_of r) message
 
 -- a request whose effect would break a clause leaves the replica as it is
 abbrev pub BreaksChangeNothing : Type 0
-BreaksChangeNothing = (setup : Setup) (r : Replica) (inst : Inst) (broken : Broken) → IsReplica setup r.me r → Decides setup inst r (decision.Breaks broken) → HasAnswered setup inst r (outcomes.Breaks broken) r
+BreaksChangeNothing = (setup : Setup) (r : Replica) (inst : Inst) (broken : Broken) → IsReplica setup r.me r → Decides setup inst (view_of r) (decision.Breaks broken) → HasAnswered setup inst r (outcomes.Breaks broken) r
+
+-- where a replica decides on one batch more, and knows then the items of that too, it has committed it
+abbrev pub CommitsMore : Type 0
+CommitsMore = (setup : Setup) (batches : List Batch) (batch : Batch) (old new : Replica) → HasCommitted setup batches old → IsDecided setup (view_of old) batch → IsReplica setup old.me new
+    → known_to new ≡ with_all batch.items (known_to old) → HasCommitted setup (batches ++ batch ∷ []) new

@@ -1,4 +1,5 @@
 pub mod Tables
+pub mod Views
 pub mod Replicas
 pub mod Decisions
 pub mod Drafts

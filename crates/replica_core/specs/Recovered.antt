@@ -7,7 +7,9 @@ use Rattle.run_model.specs.declared.batch.Batch.{Batch}
 use Rattle.run_model.specs.Worlds.{no_cut}
 use Rattle.causal_store.specs.Agreeing.{with_all}
 use Rattle.replica_core.specs.Decisions.{IsDecided}
+use Rattle.run_model.specs.Logs.{Logs}
 use Rattle.replica_core.specs.Replicas.{IsReplica, known_to, own_log}
+use Rattle.replica_core.specs.Views.{seeing}
 use Rattle.replica_core.specs.declared.replica.Replica.{Replica}
 
 -- the items of a batch were applied and logged again; what is wanted and was told is as it was
@@ -18,18 +20,32 @@ pub record HasReplayed (setup : Setup) (items : List LogItem) (old new : Replica
   pub told : new.told ≡ old.told
   pub grown : length (own_log new) ≤ length (own_log old) + 24
 
--- each of the batches is one that a replica decides on that has committed those before it
-abbrev pub AreDecided : Setup → Replica → List Batch → Type 0
-AreDecided setup r [] = Unit {0}
-AreDecided setup r (batch ∷ batches) = IsDecided setup r batch × ((next : Replica) → HasReplayed setup batch.items r next → AreDecided setup next batches)
+-- replica me decides on each of the batches, where it knows these logs and the items of the batches before
+abbrev pub AreDecided : Setup → ℕ → Logs → List Batch → Type 0
+AreDecided setup me logs [] = Unit {0}
+AreDecided setup me logs (batch ∷ batches) = IsDecided setup (seeing me logs) batch × AreDecided setup me (with_all batch.items logs) batches
 
--- replica me before its first step would decide on these batches, one after the other
+-- so many empty logs
+abbrev pub no_logs : ℕ → Logs
+no_logs replicas = replicate replicas []
+
+-- the logs once the items of these batches are applied and logged
+abbrev pub logs_after : ℕ → List Batch → Logs
+logs_after replicas batches = with_all (flat_map (λ batch. batch.items) batches) (no_logs replicas)
+
+-- replica me decides on these batches from its first step on
 abbrev pub AreCommitted : Setup → ℕ → List Batch → Type 0
-AreCommitted setup me batches = (first : Replica) → IsReplica setup me first → known_to first ≡ replicate setup.replicas [] → AreDecided setup first batches
+AreCommitted setup me batches = AreDecided setup me (no_logs setup.replicas) batches
+
+-- a replica that has committed these batches, and nothing else
+pub record HasCommitted (setup : Setup) (batches : List Batch) (r : Replica) : Type 0 where
+  pub own : IsReplica setup r.me r
+  pub decided : AreCommitted setup r.me batches
+  pub knows : known_to r ≡ logs_after setup.replicas batches
 
 -- replica me with the items of all these batches, which wants nothing and was told nothing
 pub record IsRecovered (setup : Setup) (me : ℕ) (batches : List Batch) (r : Replica) : Type 0 where
   pub own : IsReplica setup me r
-  pub knows : known_to r ≡ with_all (flat_map (λ batch. batch.items) batches) (replicate setup.replicas [])
+  pub knows : known_to r ≡ logs_after setup.replicas batches
   pub wants : r.wants ≡ []
   pub told : r.told ≡ replicate setup.replicas (no_cut setup.replicas)

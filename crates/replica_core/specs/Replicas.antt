@@ -20,6 +20,7 @@ use Rattle.run_model.specs.Worlds.{Standing, Sending, logged, logged_all}
 use Rattle.run_model.specs.Steps.{Requests, Takes}
 use Rattle.run_model.specs.Fitting.{AreInRow, IsPlaced, ItemFits, WantFits}
 use Rattle.causal_store.specs.Stores.{IsStore, cut_in, logs_in}
+use Rattle.replica_core.specs.Views.{View}
 use Rattle.replica_core.specs.Tables.{AreHeld, HasLowsAlone}
 use Rattle.replica_core.specs.declared.replica.Replica.{Replica}
 
@@ -31,9 +32,9 @@ known_to r = logs_in r.store
 abbrev pub own_log : Replica → List LogItem
 own_log r = log_at (known_to r) r.me
 
--- an item with this body, the next of its own log, with all that it has seen in its past
-abbrev pub item_of : Replica → Body → LogItem
-item_of r b = record { origin = r.me; index = length (own_log r); deps = cut_in r.store; body = b }
+-- what it decides by
+abbrev pub view_of : Replica → View
+view_of r = record { me = r.me; known = known_to r; cut = cut_in r.store }
 
 -- how it stands in a world, by its last stamp and the steps in which it sent
 abbrev pub standing_of : ℕ → List Sending → Replica → Standing

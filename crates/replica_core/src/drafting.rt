@@ -40,7 +40,7 @@ fn seen_after(cut: Cut, replicas: u32, items: &[LogItem]) -> Cut
 }
 
 impl Replica {
-    ghost use Rattle.replica_core.specs.Replicas.{HasRoom, IsReplica, own_log};
+    ghost use Rattle.replica_core.specs.Replicas.{HasRoom, IsReplica, own_log, view_of};
     ghost use Rattle.replica_core.specs.Decisions.{IsTaken, TakesHeeded};
     ghost use Rattle.replica_core.specs.Heeded.{silent};
     ghost use Rattle.replica_core.specs.Drafts.{HasAccepted, HasDrafted, HasDraftedAnswers, IsDraft, drafted_holds, drafted_logs};
@@ -238,7 +238,7 @@ impl Replica {
         requires own { IsReplica setup.now self.now.me self.now }
         requires fits { MessageFits setup.now self.now.me message.now }
         requires room { HasRoom 24 self.now }
-        ensures { IfOk result (λ taken. IsTaken setup.now message.now self.now taken) }
+        ensures { IfOk result (λ taken. IsTaken setup.now message.now (view_of self.now) taken) }
     {
         let mut draft = self.admitted(alloc, setup, message)?;
         self.accept_all(&mut draft)?;
@@ -259,7 +259,7 @@ impl Replica {
 
     /// What it takes of a message that isn't addressed to it.
     fn take_nothing(&self, alloc: Global) -> Taken
-        ensures { (setup : SetupOf) (message : MessageOf) → IsReplica setup self.now.me self.now → IsTaken setup (silent setup.replicas message) self.now result }
+        ensures { (setup : SetupOf) (message : MessageOf) → IsTaken setup (silent setup.replicas message) (view_of self.now) result }
     {
         Taken {
             batch: Batch {
@@ -281,7 +281,7 @@ impl Replica {
         requires well_formed { IsWellFormed setup.now.spec }
         requires own { IsReplica setup.now self.now.me self.now }
         requires room { HasRoom 24 self.now }
-        ensures { IfOk result (TakesHeeded setup.now self.now message.now) }
+        ensures { IfOk result (TakesHeeded setup.now (view_of self.now) message.now) }
     {
         if !is_addressed(setup, self.me, message) {
             return Ok(self.take_nothing(alloc));

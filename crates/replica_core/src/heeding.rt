@@ -65,7 +65,7 @@ fn is_item(from: u32, index: u64, item: &LogItem) -> bool
 }
 
 impl Replica {
-    ghost use Rattle.replica_core.specs.Replicas.{HasRoom, IsReplica};
+    ghost use Rattle.replica_core.specs.Replicas.{HasRoom, IsReplica, view_of};
     ghost use Rattle.replica_core.specs.Drafts as drafts;
     ghost use Rattle.replica_core.specs.Heeded.{AreHeeded, CanAccept, IsAddressed, IsPartOf, MayFollow, StaysSmall};
 
@@ -107,7 +107,7 @@ impl Replica {
         requires room { HasRoom 0 self.now }
         requires few { length before.now ≤ 16 }
         requires fits { Contains (cells setup.now.spec) cell.now }
-        ensures { IsTrue result ↔ StaysSmall setup.now self.now before.now item.now cell.now }
+        ensures { IsTrue result ↔ StaysSmall setup.now (view_of self.now) before.now item.now cell.now }
     {
         let have = self.held(setup, cell) + self.given(cell, before);
         let more = u128::from(self.given_by(cell, item));
@@ -121,7 +121,7 @@ impl Replica {
         requires room { HasRoom 0 self.now }
         requires few { length before.now ≤ 16 }
         requires fits { ItemFits setup.now item.now }
-        ensures { IsTrue result ↔ CanAccept setup.now self.now before.now item.now }
+        ensures { IsTrue result ↔ CanAccept setup.now (view_of self.now) before.now item.now }
     {
         match item.body {
             Body::Out { right, .. } => match right {
@@ -146,7 +146,7 @@ impl Replica {
         requires own { IsReplica setup.now self.now.me self.now }
         requires room { HasRoom 0 self.now }
         requires few { length before.now ≤ 16 }
-        ensures { IsTrue result ↔ MayFollow setup.now self.now from index before.now item.now }
+        ensures { IsTrue result ↔ MayFollow setup.now (view_of self.now) from index before.now item.now }
     {
         item_fits(setup, item) && is_item(from, index, item) && self.can_accept(setup, before, item)
     }
@@ -157,7 +157,7 @@ impl Replica {
         requires own { IsReplica setup.now self.now.me self.now }
         requires room { HasRoom 0 self.now }
         requires few { length items.now ≤ 16 }
-        ensures heeded { AreHeeded setup.now self.now from items.now (take result items.now) }
+        ensures heeded { AreHeeded setup.now (view_of self.now) from items.now (take result items.now) }
         ensures within { result ≤ length items.now }
     {
         let first = u64::from(first_index(items));
@@ -181,7 +181,7 @@ impl Replica {
         requires own { IsReplica setup.now self.now.me self.now }
         requires room { HasRoom 0 self.now }
         requires addressed { IsAddressed setup.now self.now.me message.now }
-        ensures part { IfOk result (IsPartOf setup.now self.now message.now) }
+        ensures part { IfOk result (IsPartOf setup.now (view_of self.now) message.now) }
         ensures fits { IfOk result (MessageFits setup.now self.now.me) }
     {
         let items = first_of(message.items.as_slice(), ITEMS);

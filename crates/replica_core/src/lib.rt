@@ -18,5 +18,7 @@ mod taking;
 mod wanting;
 
 pub use decision::{Decision, Taken};
-pub use laws::{breaks_change_nothing, holds_are_small, messages_are_heeded, messages_fit};
+pub use laws::{
+    breaks_change_nothing, commits_more, holds_are_small, messages_are_heeded, messages_fit,
+};
 pub use replica::Replica;

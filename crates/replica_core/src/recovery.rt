@@ -14,7 +14,7 @@ use spec_model::{LogItem, Setup};
 use std::alloc::Global;
 
 impl Replica {
-    ghost use Rattle.replica_core.specs.Replicas.{HasRoom, IsReplica};
+    ghost use Rattle.replica_core.specs.Replicas.{HasRoom, IsReplica, view_of};
     ghost use Rattle.replica_core.specs.Decisions.{IsDecided, IsReadyFor};
     ghost use Rattle.replica_core.specs.Recovered.{AreCommitted, HasReplayed, IsRecovered};
 
@@ -36,7 +36,7 @@ impl Replica {
     fn replay(&mut self, setup: &Setup, batch: &Batch)
         requires well_formed { IsWellFormed setup.now.spec }
         requires own { IsReplica setup.now self.old.me self.old }
-        requires decided { IsDecided setup.now self.old batch.now }
+        requires decided { IsDecided setup.now (view_of self.old) batch.now }
         requires room { HasRoom 24 self.old }
         requires ready { IsReadyFor self.old batch.now.items }
         ensures { HasReplayed setup.now batch.now.items self.old self.new }
@@ -51,7 +51,7 @@ impl Replica {
     fn replay_ready(&mut self, setup: &Setup, batch: &Batch) -> Result<(), NoMemory>
         requires well_formed { IsWellFormed setup.now.spec }
         requires own { IsReplica setup.now self.old.me self.old }
-        requires decided { IsDecided setup.now self.old batch.now }
+        requires decided { IsDecided setup.now (view_of self.old) batch.now }
         requires room { HasRoom 24 self.old }
         ensures { OnOk result (HasReplayed setup.now batch.now.items self.old self.new) }
     {

@@ -66,7 +66,8 @@ fn nothing_told(alloc: Global, replicas: u32) -> Result<Items<Cut>, NoMemory>
 }
 
 impl Replica {
-    ghost use Rattle.replica_core.specs.Replicas.{HasLogged, HasLoggedAll, HasRoom, IsKnown, IsReplica, item_of, known_to, own_log, standing_of};
+    ghost use Rattle.replica_core.specs.Replicas.{HasLogged, HasLoggedAll, HasRoom, IsKnown, IsReplica, known_to, own_log, standing_of, view_of};
+    ghost use Rattle.replica_core.specs.Views.{item_of};
     ghost use Rattle.replica_core.specs.Decisions.{AreNext, IsDecided, IsNext, IsReadyFor, StaysSame};
 
     /// A replica before its first step.
@@ -111,7 +112,7 @@ impl Replica {
     pub(crate) fn next(&self, body: Body) -> LogItem
         requires place { self.now.me < length (known_to self.now) }
         requires room { HasRoom 0 self.now }
-        ensures { result ≡ item_of self.now body }
+        ensures { result ≡ item_of (view_of self.now) body }
     {
         LogItem {
             origin: self.me,
@@ -125,7 +126,7 @@ impl Replica {
     fn append(&mut self, spec: &Spec, item: &LogItem)
         requires store { IsStore (length (known_to self.old)) self.old.store }
         requires place { self.old.me < length (known_to self.old) }
-        requires next { (b : BodyOf) × (item.now ≡ item_of self.old b) }
+        requires next { (b : BodyOf) × (item.now ≡ item_of (view_of self.old) b) }
         requires room { HasRoom 1 self.old }
         requires ready { (items : List ItemOf) × IsReadyFor self.old (item.now ∷ items) }
         ensures kept { self.new ≡ record self.old { store = self.new.store } }
@@ -140,7 +141,7 @@ impl Replica {
     fn act(&mut self, setup: &Setup, item: &LogItem, inst: &Inst)
         requires well_formed { IsWellFormed setup.now.spec }
         requires own { IsReplica setup.now self.old.me self.old }
-        requires next { item.now ≡ item_of self.old (body.Act inst.now) }
+        requires next { item.now ≡ item_of (view_of self.old) (body.Act inst.now) }
         requires fits { InstFits setup.now.spec inst.now }
         requires held { (cell : CellOf) → Contains (cells setup.now.spec) cell → spends setup.now.spec inst.now (low.Low cell) ≤ held_count setup.now (known_to self.old) self.old.me (own_log self.old) (low.Low cell) }
         requires room { HasRoom 1 self.old }
@@ -156,7 +157,7 @@ impl Replica {
     fn accept(&mut self, setup: &Setup, item: &LogItem, from: u32, index: u32)
         requires well_formed { IsWellFormed setup.now.spec }
         requires own { IsReplica setup.now self.old.me self.old }
-        requires next { item.now ≡ item_of self.old (body.Accept from index) }
+        requires next { item.now ≡ item_of (view_of self.old) (body.Accept from index) }
         requires fits { BodyFits setup.now (body.Accept from index) }
         requires known { IsKnown (known_to self.old) self.old.me (body.Accept from index) }
         requires room { HasRoom 1 self.old }
@@ -173,7 +174,7 @@ impl Replica {
     fn give(&mut self, setup: &Setup, item: &LogItem, to: u32, right: &Right, piece: &Piece)
         requires well_formed { IsWellFormed setup.now.spec }
         requires own { IsReplica setup.now self.old.me self.old }
-        requires next { item.now ≡ item_of self.old (body.Out to right.now piece.now) }
+        requires next { item.now ≡ item_of (view_of self.old) (body.Out to right.now piece.now) }
         requires fits { BodyFits setup.now (body.Out to right.now piece.now) }
         requires held { (cell : CellOf) → Contains (cells setup.now.spec) cell → out_gives (low.Low cell) (body.Out to right.now piece.now) ≤ held_count setup.now (known_to self.old) self.old.me (own_log self.old) (low.Low cell) }
         requires room { HasRoom 1 self.old }
@@ -221,7 +222,7 @@ impl Replica {
     /// without memory.
     pub fn ready(&mut self, setup: &Setup, batch: &Batch) -> Result<(), NoMemory>
         requires own { IsReplica setup.now self.old.me self.old }
-        requires decided { IsDecided setup.now self.old batch.now }
+        requires decided { IsDecided setup.now (view_of self.old) batch.now }
         ensures same { StaysSame setup.now self.old self.new }
         ensures ready { OnOk result (IsReadyFor self.new batch.now.items) }
     {

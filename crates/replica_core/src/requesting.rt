@@ -12,6 +12,7 @@ ghost use Rattle.run_model.specs.Steps.{message_of};
 ghost use Rattle.run_model.specs.Fitting.{MessageFits};
 ghost use Rattle.run_model.specs.Wants.{noted, want_less, want_of};
 ghost use Rattle.spec_model.specs.Universe.{cells};
+ghost use Rattle.causal_store.specs.Agreeing.{with_all};
 ghost use Rattle.replica_core.specs.Tables.{IsLowWant, NeedFits, low_need};
 
 use crate::decision::Decision;
@@ -28,7 +29,8 @@ use spec_model::{
 use std::alloc::Global;
 
 impl Replica {
-    ghost use Rattle.replica_core.specs.Replicas.{HasAnswered, HasRoom, IsReplica, holds_of, item_of, known_to, own_log, standing_of};
+    ghost use Rattle.replica_core.specs.Replicas.{HasAnswered, HasRoom, IsReplica, holds_of, known_to, own_log, standing_of, view_of};
+    ghost use Rattle.replica_core.specs.Views.{item_of};
     ghost use Rattle.replica_core.specs.Decisions.{Decides, IsReadyFor, broken_here};
 
     /// The need of so many rights to lower a cell, if fewer are held.
@@ -91,7 +93,7 @@ impl Replica {
     fn act_of(&self, alloc: Global, inst: &Inst) -> Result<Batch, NoMemory>
         requires place { self.now.me < length (known_to self.now) }
         requires room { HasRoom 0 self.now }
-        ensures { IfOk result (λ batch. batch.items ≡ item_of self.now (body.Act inst.now) ∷ []) }
+        ensures { IfOk result (λ batch. batch.items ≡ item_of (view_of self.now) (body.Act inst.now) ∷ []) }
     {
         let mut items = List::new(alloc);
         let _so_far = items.as_slice();
@@ -105,7 +107,7 @@ impl Replica {
         requires well_formed { IsWellFormed setup.now.spec }
         requires own { IsReplica setup.now self.now.me self.now }
         requires fits { InstFits setup.now.spec inst.now }
-        ensures { IfOk result (λ broken. broken ≡ broken_here setup.now inst.now self.now) }
+        ensures { IfOk result (λ broken. broken ≡ broken_here setup.now inst.now (view_of self.now)) }
     {
         let state = StoreTruths {
             spec: &setup.spec,
@@ -121,7 +123,7 @@ impl Replica {
         requires own { IsReplica setup.now self.now.me self.now }
         requires fits { InstFits setup.now.spec inst.now }
         requires room { HasRoom 1 self.now }
-        ensures { IfOk result (λ decision. broken_here setup.now inst.now self.now ≡ None → Decides setup.now inst.now self.now decision) }
+        ensures { IfOk result (λ decision. broken_here setup.now inst.now (view_of self.now) ≡ None → Decides setup.now inst.now (view_of self.now) decision) }
     {
         let needs = escrow_needs(alloc, &setup.spec, inst)?;
         match self.first_lacking(setup, needs.as_slice()) {
@@ -137,7 +139,7 @@ impl Replica {
         requires own { IsReplica setup.now self.now.me self.now }
         requires fits { InstFits setup.now.spec inst.now }
         requires room { HasRoom 1 self.now }
-        ensures { IfOk result (λ decision. Decides setup.now inst.now self.now decision) }
+        ensures { IfOk result (λ decision. Decides setup.now inst.now (view_of self.now) decision) }
     {
         match self.broken(alloc, setup, inst)? {
             Some(broken) => Ok(Decision::Breaks(broken)),
@@ -164,7 +166,7 @@ impl Replica {
 
     /// Wants from now on what it answered that it is short of.
     pub fn note(&mut self, lacking: &Lacking)
-        ensures { (setup : SetupOf) (inst : InstOf) → IsReplica setup self.old.me self.old → Decides setup inst self.old (decision.Short lacking.now) → HasAnswered setup inst self.old (outcomes.Short lacking.now) self.new }
+        ensures { (setup : SetupOf) (inst : InstOf) → IsReplica setup self.old.me self.old → Decides setup inst (view_of self.old) (decision.Short lacking.now) → HasAnswered setup inst self.old (outcomes.Short lacking.now) self.new }
     {
         self.want(&lacking.need);
     }
@@ -173,10 +175,11 @@ impl Replica {
     pub fn commit_act(&mut self, setup: &Setup, batch: &Batch)
         requires well_formed { IsWellFormed setup.now.spec }
         requires own { IsReplica setup.now self.old.me self.old }
-        requires decided { (inst : InstOf) × InstFits setup.now.spec inst × Decides setup.now inst self.old (decision.Act batch.now) }
+        requires decided { (inst : InstOf) × InstFits setup.now.spec inst × Decides setup.now inst (view_of self.old) (decision.Act batch.now) }
         requires room { HasRoom 1 self.old }
         requires ready { IsReadyFor self.old batch.now.items }
-        ensures { (inst : InstOf) → Decides setup.now inst self.old (decision.Act batch.now) → HasAnswered setup.now inst self.old (outcomes.Done (length (own_log self.old))) self.new }
+        ensures known { known_to self.new ≡ with_all batch.now.items (known_to self.old) }
+        ensures answered { (inst : InstOf) → Decides setup.now inst (view_of self.old) (decision.Act batch.now) → HasAnswered setup.now inst self.old (outcomes.Done (length (own_log self.old))) self.new }
     {
         self.put_all(setup, batch.items.as_slice());
     }

@@ -9,6 +9,7 @@ ghost use Rattle.spec_model.specs.Universe.{cells};
 ghost use Rattle.run_model.specs.declared.step.Outcome.TheVariants as outcomes;
 ghost use Rattle.replica_core.specs.declared.decision.Taken.{Taken as TakenOf};
 ghost use Rattle.run_model.specs.declared.message.Message.{Message as MessageOf};
+ghost use Rattle.causal_store.specs.Agreeing.{with_all};
 ghost use Rattle.replica_core.specs.Tables.{IsLowWant, low_need};
 ghost use Rattle.run_model.specs.Wants.{need_of, still_wanted};
 ghost use Rattle.run_model.specs.Worlds.{joined as joined_with};
@@ -33,7 +34,7 @@ fn joined(a: &Cut, b: &Cut) -> Cut
 }
 
 impl Replica {
-    ghost use Rattle.replica_core.specs.Replicas.{CanLearn, HasLearned, HasRoom, HasTaken, IsReplica, holds_of};
+    ghost use Rattle.replica_core.specs.Replicas.{CanLearn, HasLearned, HasRoom, HasTaken, IsReplica, holds_of, known_to, view_of};
     ghost use Rattle.replica_core.specs.Decisions.{IsReadyFor, IsTaken, Splits, TakesHeeded};
     ghost use Rattle.replica_core.specs.Heeded.{Heeds};
 
@@ -131,7 +132,8 @@ impl Replica {
         requires splits { (m : MessageOf) × (taken : TakenOf) × (m.from ≡ from) × (m.cut ≡ cut.now) × Splits setup.now m self.old taken applied.now accepts.now outs.now }
         requires room { HasRoom 24 self.old }
         requires ready { IsReadyFor self.old (applied.now ++ (accepts.now ++ outs.now)) }
-        ensures { (m : MessageOf) (taken : TakenOf) → m.from ≡ from → m.cut ≡ cut.now → Splits setup.now m self.old taken applied.now accepts.now outs.now → HasTaken setup.now m self.old (outcomes.Took m.number taken.applied taken.accepted taken.gave) self.new }
+        ensures known { known_to self.new ≡ with_all (applied.now ++ (accepts.now ++ outs.now)) (known_to self.old) }
+        ensures taken { (m : MessageOf) (taken : TakenOf) → m.from ≡ from → m.cut ≡ cut.now → Splits setup.now m self.old taken applied.now accepts.now outs.now → HasTaken setup.now m self.old (outcomes.Took m.number taken.applied taken.accepted taken.gave) self.new }
     {
         self.hear(from, cut);
         self.learn(&setup.spec, applied);
@@ -144,10 +146,11 @@ impl Replica {
     fn commit_heeded(&mut self, setup: &Setup, from: u32, cut: &Cut, taken: &Taken)
         requires well_formed { IsWellFormed setup.now.spec }
         requires own { IsReplica setup.now self.old.me self.old }
-        requires decided { (m : MessageOf) × (m.from ≡ from) × (m.cut ≡ cut.now) × MessageFits setup.now self.old.me m × IsTaken setup.now m self.old taken.now }
+        requires decided { (m : MessageOf) × (m.from ≡ from) × (m.cut ≡ cut.now) × MessageFits setup.now self.old.me m × IsTaken setup.now m (view_of self.old) taken.now }
         requires room { HasRoom 24 self.old }
         requires ready { IsReadyFor self.old taken.now.batch.items }
-        ensures { (m : MessageOf) → m.from ≡ from → m.cut ≡ cut.now → MessageFits setup.now self.old.me m → IsTaken setup.now m self.old taken.now → HasTaken setup.now m self.old (outcomes.Took m.number taken.now.applied taken.now.accepted taken.now.gave) self.new }
+        ensures known { known_to self.new ≡ with_all taken.now.batch.items (known_to self.old) }
+        ensures taken { (m : MessageOf) → m.from ≡ from → m.cut ≡ cut.now → MessageFits setup.now self.old.me m → IsTaken setup.now m (view_of self.old) taken.now → HasTaken setup.now m self.old (outcomes.Took m.number taken.now.applied taken.now.accepted taken.now.gave) self.new }
     {
         let (applied, own) = taken
             .batch
@@ -164,10 +167,11 @@ impl Replica {
     pub fn commit_take(&mut self, setup: &Setup, message: &Message, taken: &Taken)
         requires well_formed { IsWellFormed setup.now.spec }
         requires own { IsReplica setup.now self.old.me self.old }
-        requires decided { TakesHeeded setup.now self.old message.now taken.now }
+        requires decided { TakesHeeded setup.now (view_of self.old) message.now taken.now }
         requires room { HasRoom 24 self.old }
         requires ready { IsReadyFor self.old taken.now.batch.items }
-        ensures { (heeded : MessageOf) → Heeds setup.now self.old message.now heeded → IsTaken setup.now heeded self.old taken.now → HasTaken setup.now heeded self.old (outcomes.Took message.now.number taken.now.applied taken.now.accepted taken.now.gave) self.new }
+        ensures known { known_to self.new ≡ with_all taken.now.batch.items (known_to self.old) }
+        ensures taken { (heeded : MessageOf) → Heeds setup.now (view_of self.old) message.now heeded → IsTaken setup.now heeded (view_of self.old) taken.now → HasTaken setup.now heeded self.old (outcomes.Took message.now.number taken.now.applied taken.now.accepted taken.now.gave) self.new }
     {
         if is_addressed(setup, self.me, message) {
             self.commit_heeded(setup, message.from, &message.cut, taken);

@@ -16,7 +16,7 @@ use Rattle.run_model.specs.Finals.{final_of}
 use Rattle.run_model.specs.Locals.{Local, LocalSteps, StandsIn, first_local}
 use Rattle.scenario_text.specs.Numbered.{sends_of}
 use Rattle.replica_core.specs.Heeded.{IsHeededWhole}
-use Rattle.replica_core.specs.Replicas.{HasRoom, IsReplica, known_to, own_log, standing_of}
+use Rattle.replica_core.specs.Replicas.{HasRoom, IsReplica, known_to, own_log, standing_of, view_of}
 use Rattle.request_workers.specs.declared.node.Node.{Node}
 
 -- how a node stands, having sent this, and what it knows
@@ -104,7 +104,7 @@ CanStepAt setup me nodes = (node : Node) → slice_get nodes me ≡ Some node �
 
 -- the node of replica me heeds the message whole
 abbrev pub HeedsWholeAt : Setup → ℕ → Message → List Node → Type 0
-HeedsWholeAt setup me message nodes = (node : Node) → slice_get nodes me ≡ Some node → IsHeededWhole setup node.replica message
+HeedsWholeAt setup me message nodes = (node : Node) → slice_get nodes me ≡ Some node → IsHeededWhole setup (view_of node.replica) message
 
 -- one of the nodes takes a step
 pub record StepsAt (setup : Setup) (me : ℕ) (ask : Ask) (heard : Option Sending) (sent : List Sending) (old new : List Node) : Type 0 where

@@ -13,7 +13,7 @@ ghost use Rattle.causal_store.specs.Stores.{IsShort};
 ghost use Rattle.spec_model.specs.declared.instance.Inst.{Inst as InstOf};
 ghost use Rattle.replica_core.specs.declared.decision.Decision.TheVariants as decision;
 ghost use Rattle.replica_core.specs.Decisions.{Decides};
-ghost use Rattle.replica_core.specs.Replicas.{HasAnswered, HasRoom, HasTaken, IsReplica, known_to, own_log};
+ghost use Rattle.replica_core.specs.Replicas.{HasAnswered, HasRoom, HasTaken, IsReplica, known_to, own_log, view_of};
 ghost use Rattle.replica_core.specs.Tables.{HasLowsAlone};
 
 use ind_base::{List, NoMemory};
@@ -34,9 +34,9 @@ pub(crate) struct Node {
 fn act(setup: &Setup, replica: &mut Replica, batch: &Batch) -> Result<Outcome, NoMemory>
     requires well_formed { IsWellFormed setup.now.spec }
     requires own { IsReplica setup.now replica.old.me replica.old }
-    requires decided { (inst : InstOf) × InstFits setup.now.spec inst × Decides setup.now inst replica.old (decision.Act batch.now) }
+    requires decided { (inst : InstOf) × InstFits setup.now.spec inst × Decides setup.now inst (view_of replica.old) (decision.Act batch.now) }
     requires room { HasRoom 1 replica.old }
-    ensures { IfOk result (λ outcome. (inst : InstOf) → Decides setup.now inst replica.old (decision.Act batch.now) → HasAnswered setup.now inst replica.old outcome replica.new) }
+    ensures { IfOk result (λ outcome. (inst : InstOf) → Decides setup.now inst (view_of replica.old) (decision.Act batch.now) → HasAnswered setup.now inst replica.old outcome replica.new) }
 {
     let index = batch.items.as_slice()[0].index;
     replica.ready(setup, batch)?;
@@ -79,7 +79,7 @@ fn receive(
 ) -> Result<Outcome, NoMemory>
     requires well_formed { IsWellFormed setup.now.spec }
     requires own { IsReplica setup.now replica.old.me replica.old }
-    requires whole { IsHeededWhole setup.now replica.old message.now }
+    requires whole { IsHeededWhole setup.now (view_of replica.old) message.now }
     requires room { HasRoom 24 replica.old }
     ensures { IfOk result (λ outcome. HasTaken setup.now message.now replica.old outcome replica.new) }
 {
@@ -186,7 +186,7 @@ impl Node {
     ) -> Result<(), NoMemory>
         requires well_formed { IsWellFormed setup.now.spec }
         requires can { CanStep setup.now self.old }
-        requires whole { IsHeededWhole setup.now self.old.replica message.now }
+        requires whole { IsHeededWhole setup.now (view_of self.old.replica) message.now }
         requires stamp { message.now.stamp < 2 ^ 63 }
         ensures { OnOk result (NodeSteps setup.now (asks.Take message.now.from (Some number)) (Some (sending_of message.now)) [] self.old self.new) }
     {

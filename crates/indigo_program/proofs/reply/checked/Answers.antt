@@ -1,6 +1,6 @@
 use Rattle.std.proofs.Common.{arith}
 use Rattle.indigo_program.proofs.Lines.{lines_short}
-use Rattle.indigo_program.proofs.Runs.{checked_answer, refused_answer}
+use Rattle.indigo_program.proofs.Runs.{checked_answer}
 use Rattle.indigo_program.proofs.reply.checked.Goals as goal
 
 pub parse_document-requires : goal.parse_document-requires

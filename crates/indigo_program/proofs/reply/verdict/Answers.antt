@@ -1,4 +1,4 @@
-use Rattle.std.proofs.Common.{◌≡◌, ◌≤◌, List, ℕ, length, ap, ◌∙◌, arith}
+use Rattle.std.proofs.Common.{length, ap, arith}
 use Rattle.indigo_program.proofs.Lines.{lines_short}
 use Rattle.indigo_program.proofs.reply.verdict.Goals as goal
 

@@ -9,6 +9,7 @@ use Rattle.replica_core.proofs.Changes.{own_again}
 use Rattle.replica_core.proofs.Committed.{accepts_next, accepts_short, admits_of, drops_of, outs_next, outs_short, received_of, taken_done}
 use Rattle.replica_core.proofs.Finished.{left_own}
 use Rattle.replica_core.proofs.Received.{heard_so, learned_replica, learned_stands, mid_can, mid_learns}
+use Rattle.replica_core.proofs.Replayed.{taken_known}
 use Rattle.replica_core.proofs.replica.Replica.do_all.Goals as goal
 
 pub learn-requires-clause-store : goal.learn-requires-clause-store
@@ -166,8 +167,20 @@ put_all-requires-2-clause-ready c =
     let ready = c.put_all.ensures.ready outs (c.learn.ensures.ready (accepts ++ outs) (subst (λ (r : Replica). IsReadyFor r (front ++ (accepts ++ outs))) (sym c.hear.ensures) c.requires.ready)) in
     ([], subst (IsReadyFor c.drop_met.new.self) (sym (append-nil outs)) (subst (λ (r : Replica). IsReadyFor r outs) (sym c.drop_met.ensures) ready))
 
-pub returns : goal.returns
-returns c =
+pub returns-clause-known : goal.returns-clause-known
+returns-clause-known c =
+    let setup = c.args.setup.now in
+    let message = c.requires.splits.0 in
+    let old = c.args.self.now in
+    let front : List LogItem = c.args.applied.now in
+    let accepts : List LogItem = c.args.accepts.now in
+    let outs : List LogItem = c.args.outs.now in
+    let splits = c.requires.splits.4 in
+    let admits = admits_of setup message old c.hear.new.self c.requires.splits.1 front accepts outs splits (heard_so message old c.hear.new.self c.args.from c.args.cut.now c.requires.splits.2 c.requires.splits.3 c.hear.ensures) in
+    taken_known setup message old c.hear.new.self c.learn.new.self c.put_all.new.self c.drop_met.new.self c.put_all-2.new.self c.requires.splits.1 front accepts outs splits admits c.learn.ensures.learned c.put_all.ensures.logged c.drop_met.ensures c.put_all-2.ensures.logged
+
+pub returns-clause-taken : goal.returns-clause-taken
+returns-clause-taken c =
     let setup = c.args.setup.now in
     let old = c.args.self.now in
     let front : List LogItem = c.args.applied.now in

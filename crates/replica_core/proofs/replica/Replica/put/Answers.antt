@@ -1,12 +1,13 @@
 use Rattle.std.proofs.Common.{[], sym, ap, subst, ◌∙◌}
 use Rattle.spec_model.specs.declared.log.Body.{Body}
 use Rattle.run_model.specs.Fitting.{BodyFits}
-use Rattle.replica_core.specs.Replicas.{HasLogged, IsKnown, item_of, known_to, standing_of}
+use Rattle.replica_core.specs.Views.{item_of}
+use Rattle.replica_core.specs.Replicas.{HasLogged, IsKnown, known_to, standing_of, view_of}
 use Rattle.replica_core.proofs.Next.{loses_as}
 use Rattle.replica_core.proofs.replica.Replica.put.Goals as goal
 
 pub act-requires-clause-next : goal.act-requires-clause-next
-act-requires-clause-next c = c.requires.next.is ∙ ap (item_of c.args.self.now) c.in-Act.is
+act-requires-clause-next c = c.requires.next.is ∙ ap (item_of (view_of c.args.self.now)) c.in-Act.is
 
 pub act-requires-clause-fits : goal.act-requires-clause-fits
 act-requires-clause-fits c = subst (BodyFits c.args.setup.now) c.in-Act.is c.requires.next.fits
@@ -18,7 +19,7 @@ pub returns-in-Act-clause-logged : goal.returns-in-Act-clause-logged
 returns-in-Act-clause-logged c = subst (λ (b : Body). HasLogged c.args.setup.now b c.args.self.now c.act.new.self) (sym c.in-Act.is) c.act.ensures.logged
 
 pub accept-requires-clause-next : goal.accept-requires-clause-next
-accept-requires-clause-next c = c.requires.next.is ∙ ap (item_of c.args.self.now) c.in-Accept.is
+accept-requires-clause-next c = c.requires.next.is ∙ ap (item_of (view_of c.args.self.now)) c.in-Accept.is
 
 pub accept-requires-clause-fits : goal.accept-requires-clause-fits
 accept-requires-clause-fits c = subst (BodyFits c.args.setup.now) c.in-Accept.is c.requires.next.fits
@@ -30,7 +31,7 @@ pub returns-in-Accept-clause-logged : goal.returns-in-Accept-clause-logged
 returns-in-Accept-clause-logged c = subst (λ (b : Body). HasLogged c.args.setup.now b c.args.self.now c.accept.new.self) (sym c.in-Accept.is) c.accept.ensures.logged
 
 pub give-requires-clause-next : goal.give-requires-clause-next
-give-requires-clause-next c = c.requires.next.is ∙ ap (item_of c.args.self.now) c.in-Out.is
+give-requires-clause-next c = c.requires.next.is ∙ ap (item_of (view_of c.args.self.now)) c.in-Out.is
 
 pub give-requires-clause-fits : goal.give-requires-clause-fits
 give-requires-clause-fits c = subst (BodyFits c.args.setup.now) c.in-Out.is c.requires.next.fits

@@ -1,6 +1,7 @@
-use Rattle.std.proofs.Common.{[], List, length, replicate, ap, ◌∙◌, subst, arith}
+use Rattle.std.proofs.Common.{[], ◌+◌, List, length, drop, replicate, sym, ap, ◌∙◌, subst, arith}
 use Rattle.run_model.specs.declared.batch.Batch.{Batch}
 use Rattle.causal_store.specs.Agreeing.{with_all}
+use Rattle.replica_core.specs.Recovered.{AreDecided}
 use Rattle.replica_core.specs.Replicas.{IsReplica}
 use Rattle.replica_core.proofs.Changes.{own_again}
 use Rattle.run_model.specs.Logs.{Logs, log_at}
@@ -12,7 +13,7 @@ pub replay_ready-requires-clause-own : goal.replay_ready-requires-clause-own
 replay_ready-requires-clause-own c = own_again c.args.setup.now c.args.me c.loop-batch.replica c.loop-batch.invariant.own
 
 pub replay_ready-requires-clause-decided : goal.replay_ready-requires-clause-decided
-replay_ready-requires-clause-decided c = (decided_next c.args.setup.now c.loop-batch.replica c.args.batches.now c.loop-batch.batch-index c.batch-item.result c.loop-batch-test.true c.batch-item.is c.loop-batch.invariant.rest).0
+replay_ready-requires-clause-decided c = (decided_next c.args.setup.now c.args.me c.loop-batch.replica c.args.batches.now c.loop-batch.batch-index c.batch-item.result c.loop-batch.invariant.own c.loop-batch-test.true c.batch-item.is c.loop-batch.invariant.rest).0
 
 pub replay_ready-requires-clause-room : goal.replay_ready-requires-clause-room
 replay_ready-requires-clause-room c = omega (arith, c.loop-batch.invariant.short, c.loop-batch-test.true, c.requires.few_batches)
@@ -25,13 +26,13 @@ loop-batch-preserved c =
     let x : Batch = c.batch-item.result in
     let old = c.loop-batch.replica in
     let h = c.in_ok-replay_ready.ensures in
-    let rest = decided_next setup old batches k x c.loop-batch-test.true c.batch-item.is c.loop-batch.invariant.rest in
+    let rest = decided_next setup c.args.me old batches k x c.loop-batch.invariant.own c.loop-batch-test.true c.batch-item.is c.loop-batch.invariant.rest in
     record {
       own = subst (λ i. IsReplica setup i c.replay_ready.new.self) c.loop-batch.invariant.own.me_is h.own;
       knows = h.knows ∙ ap (with_all x.items) c.loop-batch.invariant.knows ∙ all_more batches k x (replicate setup.replicas []) c.loop-batch-test.true c.batch-item.is;
       wants = h.wants ∙ c.loop-batch.invariant.wants;
       told = h.told ∙ c.loop-batch.invariant.told;
-      rest = rest.1 c.replay_ready.new.self h;
+      rest = subst (λ (l : Logs). AreDecided setup c.args.me l (drop (k + 1) batches)) (sym h.knows) rest.1;
       short = omega (arith, c.loop-batch.invariant.short, h.grown);
       each = λ j.
           let few = decided_short setup old x (own_again setup c.args.me old c.loop-batch.invariant.own) rest.0 in

@@ -14,7 +14,7 @@ invariant-loop-batch l = record {
   knows : known_to l.replica ≡ with_all (flat_map (λ batch. batch.items) (take l.batch-index l.batches)) (replicate l.setup.replicas []);
   wants : l.replica.wants ≡ [];
   told : l.replica.told ≡ replicate l.setup.replicas (no_cut l.setup.replicas);
-  rest : AreDecided l.setup l.replica (drop l.batch-index l.batches);
+  rest : AreDecided l.setup l.me (known_to l.replica) (drop l.batch-index l.batches);
   short : length (own_log l.replica) ≤ l.batch-index * 24;
   each : (j : ℕ) → length (log_at (known_to l.replica) j) ≤ l.batch-index * 40;
 }
