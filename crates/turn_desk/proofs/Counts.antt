@@ -13,7 +13,7 @@ use Rattle.turn_desk.specs.declared.pass.View.{View}
 use Rattle.turn_desk.specs.declared.turn.Turn.{Ghosts}
 use Rattle.turn_desk.specs.Line.{entries, noted, served}
 use Rattle.turn_desk.specs.Rule.{IsHome, IsOut, Fits, once_below}
-use Rattle.turn_desk.specs.Steps.{IsServed, counts, ended}
+use Rattle.turn_desk.specs.Steps.{IsReady, counts, ended}
 use Rattle.turn_desk.specs.Views.{waiting, turns_of, claims, one_of, one_if}
 use Rattle.turn_desk.proofs.Options.{none_is_no, same_some}
 use Rattle.turn_desk.proofs.Kept.{Kept, first_of, few, alone, with_view}
@@ -152,9 +152,9 @@ module _ {V A B O : Type 0} (g : Ghosts V A B O) (key : Key V) where
 
   -- the same, where the hand is known to have the value
   pub counting_from : (slots id : ℕ) (st : Step (Option V)) (v : View A B O) (c : List (ℕ × Option V)) → v.serves ≡ true
-      → IsServed g.history g.opening (v, c)
+      → IsReady g.history g.opening (v, c)
       → Allows (Kept g key) slots id (v, c) 0 (λ n. (n + 1) % 2 ^ 64) (counts g.history st (v, c))
   counting_from slots id st v c now ready =
-      let opened = ready.2 in let turn = ready.3 in
+      let turn = ready.2.turn in
       subst (λ (k : List (ℕ × Option V)). Allows (Kept g key) slots id (v, k) 0 (λ n. (n + 1) % 2 ^ 64) (counts g.history st (v, k)))
-      (sym ready.1) (counting slots id st v ready.0 turn.0 now turn.1 opened)
+      (sym ready.1) (counting slots id st v ready.0 turn.0 now turn.1 ready.2.opened)

@@ -7,7 +7,7 @@ use Rattle.turn_desk.specs.declared.line.Noted.{Noted}
 use Rattle.turn_desk.specs.declared.pass.View.{View}
 use Rattle.turn_desk.specs.declared.turn.Turn.{Ghosts}
 use Rattle.turn_desk.specs.Line.{entries, own, others, noted, served, entry_of, AddsTurn}
-use Rattle.turn_desk.specs.Steps.{At, SeesMore, Takes, IsTaken, IsServed, IsCounted, serving}
+use Rattle.turn_desk.specs.Steps.{At, ended, SeesMore, Takes, IsTaken, IsTurned, IsCounted, Ends, serving}
 use Rattle.turn_desk.proofs.Notes.{own_more, own_last}
 use Rattle.turn_desk.proofs.Options.{same_some}
 
@@ -70,41 +70,44 @@ module _ {V A B O : Type 0} (g : Ghosts V A B O) where
       → Takes g.history g.opening g.room m m' → Takes g.history g.opening g.room (u, c) m'
   takes_on u m m' c sees takes = (takes.0, takes.1, sees_on u m.0 takes.0 sees takes.2, takes.3, takes.4)
 
+  -- the value that was counted is the one that was put home
+  pub ends_with : (m home m' : At V A B O) (y : V) → home ≡ (m.0, (0, Some y) ∷ []) → IsCounted g.history home m' → Ends g.history m.0 y m'
+  ends_with m home m' y put counted =
+      let held : ◌≡◌ {A = List (ℕ × Option V)} ((0, Some counted.0) ∷ []) ((0, Some y) ∷ []) =
+      sym counted.2 ∙ ap (λ (z : At V A B O). z.1) put in
+      let pair : ◌≡◌ {A = ℕ × Option V} (0, Some counted.0) (0, Some y) = cc (held) in
+      let is : counted.0 ≡ y = same_some counted.0 y (ap (λ (z : ℕ × Option V). z.1) pair) in
+      let view : home.0 ≡ m.0 = ap (λ (z : At V A B O). z.0) put in (
+        counted.1,
+        sym (ap g.history is) ∙ counted.3 ∙ ap (λ (z : View A B O). served (entries z.notes ++ counted.1 ∷ [])) view,
+        counted.4 ∙ ap (λ (z : View A B O). let r : At V A B O = (ended z counted.1, []) in r) view,
+      )
+
   -- x is the value that was taken, and y what the ask left of it
   module _ {E : Type 0} (v : View A B O) (x : V) (m : At V A B O) (taken : IsTaken g.history g.opening g.room v x m) (y : V) (ask : A)
       (r : Result B E) (same : g.opening y ≡ g.opening x) (ok : IfOk r (λ b. g.history y ≡ g.history x ++ (ask, b) ∷ []))
-      (err : OnErr r (g.history y ≡ g.history x)) (home : At V A B O) (put : home ≡ (m.0, (0, Some y) ∷ [])) where
-    in_hand : home.0 ≡ serving taken.1
-    in_hand = ap (λ (z : At V A B O). z.0) put ∙ ap (λ (z : At V A B O). z.0) taken.3
+      (err : OnErr r (g.history y ≡ g.history x)) where
+    in_hand : m.0 ≡ serving taken.1
+    in_hand = ap (λ (z : At V A B O). z.0) taken.3
 
-    stands : g.history y ≡ served (entries home.0.notes ++ entry_of ask r ∷ [])
+    stands : g.history y ≡ served (entries m.0.notes ++ entry_of ask r ∷ [])
     stands =
         let was = taken.4.stands ∙ ap (λ (z : View A B O). served (entries z.notes)) (sym in_hand) in
-        after_turn (entries home.0.notes) (g.history x) (g.history y) ask r was ok err
+        after_turn (entries m.0.notes) (g.history x) (g.history y) ask r was ok err
 
-    pub is_served : IsServed g.history g.opening home
-    is_served = (
-      y,
-      ap (λ (z : At V A B O). z.1) put,
-      ap (λ (z : View A B O). z.opening) in_hand ∙ taken.4.opened ∙ ap (λ (o : O). let s : Option O = Some o in s) (sym same),
-      (entry_of ask r, stands),
-    )
+    pub is_turned : IsTurned g.history g.opening m.0 y
+    is_turned = record {
+      opened = ap (λ (z : View A B O). z.opening) in_hand ∙ taken.4.opened ∙ ap (λ (o : O). let s : Option O = Some o in s) (sym same);
+      turn = (entry_of ask r, stands);
+    }
 
-    module _ (m' : At V A B O) (counted : IsCounted g.history home m') where
-      -- the value that was counted is the one that was put home, so its last turn is this one
-      this_turn : counted.1 ≡ entry_of ask r
-      this_turn =
-          let held : ◌≡◌ {A = List (ℕ × Option V)} ((0, Some counted.0) ∷ []) ((0, Some y) ∷ []) = sym counted.2 ∙ ap (λ (z : At V A B O). z.1) put in
-          let pair : ◌≡◌ {A = ℕ × Option V} (0, Some counted.0) (0, Some y) = cc (held) in
-          let is : counted.0 ≡ y = same_some counted.0 y (ap (λ (z : ℕ × Option V). z.1) pair) in
-          last_same (entries home.0.notes) counted.1 (entry_of ask r) (sym counted.3 ∙ ap g.history is ∙ stands)
-
-      pub adds_turn : AddsTurn v.notes (entry_of ask r) m'.0.notes
-      adds_turn =
-          let ends : List (Noted A B) → List (Noted A B) = λ (ns : List (Noted A B)). ns ++ noted true (entry_of ask r) ∷ [] in
-          let noted_there : home.0.notes ≡ v.notes ++ others taken.2.0 =
-          ap (λ (z : View A B O). z.notes) in_hand ∙ ap (λ (z : View A B O). z.notes) taken.2.1 in (
-            taken.2.0,
-            ap (λ (z : At V A B O). z.0.notes) counted.4
-                ∙ ap (λ (k : Entry A B). home.0.notes ++ noted true k ∷ []) this_turn ∙ ap ends noted_there,
-          )
+    pub adds_turn : (m' : At V A B O) → Ends g.history m.0 y m' → AddsTurn v.notes (entry_of ask r) m'.0.notes
+    adds_turn m' ends =
+        let this_turn = last_same (entries m.0.notes) ends.0 (entry_of ask r) (sym ends.1 ∙ stands) in
+        let add : List (Noted A B) → List (Noted A B) = λ (ns : List (Noted A B)). ns ++ noted true (entry_of ask r) ∷ [] in
+        let noted_there : m.0.notes ≡ v.notes ++ others taken.2.0 =
+        ap (λ (z : View A B O). z.notes) in_hand ∙ ap (λ (z : View A B O). z.notes) taken.2.1 in (
+          taken.2.0,
+          ap (λ (z : At V A B O). z.0.notes) ends.2
+              ∙ ap (λ (k : Entry A B). m.0.notes ++ noted true k ∷ []) this_turn ∙ ap add noted_there,
+        )

@@ -37,7 +37,7 @@ module _ {A B O : Type 0} where
     pub turns : Merges (own v.notes) (own v.beside) (own notes)
 
 module _ {V A B O : Type 0} where
-  -- its ticket is the number that was found
+  -- a ticket was drawn: it is the number that was found
   abbrev pub draws : Step (Option V) → At V A B O → ℕ → At V A B O → Type 0
   draws st m found m' = m' ≡ (drawn m.0 found, m.1)
 
@@ -52,15 +52,23 @@ module _ {V A B O : Type 0} (history : V → List (A × B)) where
       (x : V) × (entry : Entry A B) × (m.1 ≡ (0, Some x) ∷ [])
       × (history x ≡ served (entries m.0.notes ++ entry ∷ [])) × (m' ≡ (ended m.0 entry, []))
 
+  -- what the step that counts tells
   abbrev pub counts : Step (Option V) → At V A B O → ℕ → At V A B O → Type 0
   counts st m found m' = IsCounted m m'
 
+  -- that turn of this value stands last in the line
+  abbrev pub Ends : View A B O → V → At V A B O → Type 0
+  Ends v x m' = (entry : Entry A B) × (history x ≡ served (entries v.notes ++ entry ∷ [])) × (m' ≡ (ended v entry, []))
+
 module _ {V A B O : Type 0} (history : V → List (A × B)) (opening : V → O) where
-  -- the value is put where its slot expects it, and stands for what the pass has seen and one turn more
-  abbrev pub IsServed : At V A B O → Type 0
-  IsServed m =
-      (x : V) × (m.1 ≡ (0, Some x) ∷ []) × (m.0.opening ≡ Some (opening x))
-      × ((entry : Entry A B) × (history x ≡ served (entries m.0.notes ++ entry ∷ [])))
+  -- the value stands for what the pass has seen and one turn more
+  pub record IsTurned (v : View A B O) (x : V) : Type 0 where
+    pub opened : v.opening ≡ Some (opening x)
+    pub turn : (entry : Entry A B) × (history x ≡ served (entries v.notes ++ entry ∷ []))
+
+  -- the turn may be counted: such a value is home in its slot
+  abbrev pub IsReady : At V A B O → Type 0
+  IsReady m = (x : V) × (m.1 ≡ (0, Some x) ∷ []) × IsTurned m.0 x
 
 module _ {V A B O : Type 0} (history : V → List (A × B)) (opening : V → O) (room : O → ℕ) where
   -- the value stands for what the pass has seen, and may serve one more turn

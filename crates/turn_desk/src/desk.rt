@@ -69,9 +69,7 @@ impl<V: Turn + Drop> Desk<V> {
     {
         let mut value = self.take(rt, &mut pass.hand);
         let answer = value.turn(ask);
-        // The next ticket is served once the turn is counted, so the value has to be home by then.
-        self.put_home(&mut pass.hand, value);
-        self.count(&mut pass.hand);
+        self.put_back(&mut pass.hand, value);
         answer
     }
 

@@ -1,7 +1,7 @@
 //! The steps of a turn. In their midst a pass is not idle, so they work on its seat at the table.
 ghost use Rattle.std.specs.Prelude.{◌≡◌, ◌<◌, true, false, [], ◌∷◌, Some, None, IsTrue};
 ghost use Rattle.turn_desk.specs.Views.{IsIdle, taken};
-ghost use Rattle.turn_desk.specs.Steps.{drawn, SeesMore, Takes, IsTaken, IsServed, IsCounted};
+ghost use Rattle.turn_desk.specs.Steps.{drawn, SeesMore, Takes, IsTaken, IsTurned, IsReady, IsCounted, Ends};
 ghost use Rattle.turn_desk.specs.Passes.{IsHandOf};
 
 use crate::desk::Desk;
@@ -71,8 +71,7 @@ impl<V: Turn + Drop> Desk<V> {
         value
     }
 
-    /// Puts the value into its slot.
-    pub(crate) fn put_home(&self, hand: &mut Hand<V>, value: V)
+    fn put_home(&self, hand: &mut Hand<V>, value: V)
         requires own { IsHandOf self.now hand.old }
         requires out { hand.old.me.1 ≡ (0, None) ∷ [] }
         ensures own { IsHandOf self.now hand.new }
@@ -81,16 +80,30 @@ impl<V: Turn + Drop> Desk<V> {
         self.table.shared.exchange(hand, 0, Some(value));
     }
 
-    /// Counts the turn. From this step on the next ticket is served.
-    pub(crate) fn count(&self, hand: &mut Hand<V>)
+    // After this step the next ticket is served.
+    fn count(&self, hand: &mut Hand<V>)
         requires own { IsHandOf self.now hand.old }
         requires serves { hand.old.me.0.serves ≡ true }
-        requires home { IsServed V.history V.opening hand.old.me }
+        requires home { IsReady V.history V.opening hand.old.me }
         ensures own { IsHandOf self.now hand.new }
         ensures counted { IsCounted V.history hand.old.me hand.new.me }
     {
         self.table
             .shared
             .fetch_add::<CountTurn<V>>(hand, SERVING, 1);
+    }
+
+    /// Puts the value back into its slot, and counts the turn.
+    pub(crate) fn put_back(&self, hand: &mut Hand<V>, value: V)
+        requires own { IsHandOf self.now hand.old }
+        requires out { hand.old.me.1 ≡ (0, None) ∷ [] }
+        requires serves { hand.old.me.0.serves ≡ true }
+        requires turned { IsTurned V.history V.opening hand.old.me.0 value }
+        ensures own { IsHandOf self.now hand.new }
+        ensures ends { Ends V.history hand.old.me.0 value hand.new.me }
+    {
+        // The next ticket is served once the turn is counted, so the value has to be home by then.
+        self.put_home(hand, value);
+        self.count(hand);
     }
 }
