@@ -1,5 +1,5 @@
 -- A holding of one right, of any kind.
-use Rattle.std.specs.Prelude.{◌≡◌, ℕ, ◌+◌, ◌-◌, ◌<◌, ◌^◌, Bool, false, nat_le}
+use Rattle.std.specs.Prelude.{◌≡◌, ℕ, ◌+◌, ◌-◌, ◌<◌, ◌^◌, ◌==◌, Bool, true, false, nat_le}
 use Rattle.spec_model.specs.declared.right.Right.{Right}
 use Rattle.spec_model.specs.declared.right.Right.TheVariants as right
 use Rattle.spec_model.specs.declared.right.Mode.{Mode}
@@ -10,8 +10,6 @@ use Rattle.spec_model.specs.declared.right.WantAsk.{WantAsk}
 use Rattle.spec_model.specs.declared.right.WantAsk.TheVariants as asked
 use Rattle.spec_model.specs.declared.right.Held.{Held}
 use Rattle.spec_model.specs.declared.right.Held.TheVariants as held
-use Rattle.escrow_rights.specs.declared.escrow.Escrow.{Escrow}
-use Rattle.multilevel_locks.specs.declared.shares.Shares.{Shares}
 use Rattle.multilevel_locks.specs.declared.shares.SharesPiece.{SharesPiece}
 use Rattle.multilevel_locks.specs.Shares as shares
 use Rattle.multilevel_locks.specs.Holdings.{Joins, IsLess, IsMore, acted}
@@ -33,20 +31,17 @@ abbrev pub told : Holding → Held
 told (holding.Count e) = held.Count e.count
 told (holding.Shares s) = held.Shares s.shares s.mode
 
--- a count, or shares of so many
-abbrev pub IsCount : Holding → Type 0
-IsCount h = (e : Escrow) × (h ≡ holding.Count e)
+-- it is of the right's kind: of a cell a count, of a lock or an entry shares of so many
+abbrev pub is_of : ℕ → Right → Holding → Bool
+is_of all (right.Low cell) (holding.Count e) = true
+is_of all (right.High cell) (holding.Count e) = true
+is_of all (right.Lock lock key) (holding.Shares s) = s.all == all
+is_of all (right.Entry clause args literal) (holding.Shares s) = s.all == all
+is_of all _ h = false
 
-abbrev pub IsShares : ℕ → Holding → Type 0
-IsShares all h = (s : Shares) × (h ≡ holding.Shares s) × (s.all ≡ all)
-
--- it is of the right's kind
-abbrev pub IsOf : ℕ → Right → Holding → Type 0
-IsOf all (right.Low cell) h = IsCount h
-IsOf all (right.High cell) h = IsCount h
-IsOf all (right.Lock lock key) h = IsShares all h
-IsOf all (right.Entry clause args literal) h = IsShares all h
-IsOf all (right.Part part key) h = IsCount h
+abbrev pub is_count : Holding → Bool
+is_count (holding.Count e) = true
+is_count (holding.Shares s) = false
 
 -- ---- what it permits, gives, accepts and spends, as its kind does
 

@@ -1,1 +1,5 @@
 pub mod Holdings
+pub mod Steps
+pub mod Entries
+pub mod Parts
+pub mod Tables

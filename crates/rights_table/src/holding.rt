@@ -1,6 +1,6 @@
 //! A holding of one right, of any kind.
 
-ghost use Rattle.std.specs.Prelude.{◌≡◌, ◌+◌, ◌<◌, ◌^◌, Err, IfOk, OnOk};
+ghost use Rattle.std.specs.Prelude.{◌≡◌, ◌+◌, ◌<◌, ◌^◌, true};
 
 use escrow_rights::Escrow;
 use ind_base::{GiveError, NoMemory, RightKind};
@@ -40,9 +40,9 @@ impl Holding {
     /// Adds rights that an operation creates. What it has no count of stays.
     pub(crate) fn create(&mut self, n: u64)
         requires small { holdings.count_of self.old + n < 2 ^ 64 }
-        requires kind { holdings.IsCount self.old }
+        requires kind { holdings.is_count self.old ≡ true }
         ensures count { holdings.count_of self.new ≡ holdings.count_of self.old + n }
-        ensures kind { holdings.IsCount self.new }
+        ensures kind { holdings.is_count self.new ≡ true }
     {
         match self {
             Holding::Count(escrow) => escrow.create(n),

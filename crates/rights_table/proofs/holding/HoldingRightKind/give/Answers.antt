@@ -1,9 +1,9 @@
-use Rattle.std.proofs.Common.{◌≡◌, ℕ, ◌<◌, sym, ap, subst, ◌∙◌}
+use Rattle.std.proofs.Common.{◌≡◌, ℕ, ◌<◌, sym, ap, subst}
 use Rattle.std.specs.Prelude.{◌↔◌, Err}
 use Rattle.ind_base.specs.declared.right_kind.GiveError.TheVariants.{Lacks}
 use Rattle.spec_model.specs.declared.right.Piece.{Piece}
 use Rattle.rights_table.specs.declared.holding.Holding.{Holding}
-use Rattle.rights_table.specs.Holdings.{held_of, size, count_of}
+use Rattle.rights_table.specs.Holdings.{size, count_of}
 use Rattle.rights_table.proofs.holding.HoldingRightKind.give.Goals as goal
 
 pub returns-in-Count-piece-clause-lacks : goal.returns-in-Count-piece-clause-lacks
