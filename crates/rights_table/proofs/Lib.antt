@@ -4,3 +4,4 @@ pub mod Rooms
 pub mod Giving
 pub mod Telling
 pub mod Stepped
+pub mod Pieces

@@ -2,4 +2,5 @@ pub mod Holdings
 pub mod Steps
 pub mod Entries
 pub mod Parts
+pub mod Passing
 pub mod Tables

@@ -4,6 +4,7 @@
 mod entry;
 mod first;
 mod holding;
+mod passing;
 mod step;
 mod table;
 mod told;

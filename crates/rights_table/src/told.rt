@@ -49,7 +49,7 @@ impl Table {
     ghost use Rattle.rights_table.specs.Tables.{IsTable, held_in, holding_in, replicas_of};
 
     /// What is held of a right.
-    fn held_of(&self, setup: &Setup, right: &Right) -> Held
+    pub(crate) fn held_of(&self, setup: &Setup, right: &Right) -> Held
         requires well_formed { IsWellFormed setup.now.spec }
         requires some { 0 < setup.now.replicas }
         requires replicas { replicas_of self.now ≡ setup.now.replicas }
