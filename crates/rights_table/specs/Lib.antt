@@ -1,0 +1,6 @@
+pub mod Holdings
+pub mod Steps
+pub mod Entries
+pub mod Parts
+pub mod Passing
+pub mod Tables

@@ -1,0 +1,84 @@
+-- A table of rights: what a replica holds of each after the items of its own log.
+use Rattle.std.specs.Prelude.{◌≡◌, true, ℕ, ◌+◌, ◌≤◌, List, [], Bool, if◌then◌else◌, Option, Some, None, sum_by}
+use Rattle.std.specs.Option.{option_map_or}
+use Rattle.ind_base.specs.declared.span.Span.{Span}
+use Rattle.spec_model.specs.declared.plan.Setup.{Setup}
+use Rattle.spec_model.specs.declared.right.Right.{Right}
+use Rattle.spec_model.specs.declared.right.Need.{Need}
+use Rattle.spec_model.specs.declared.right.Held.{Held}
+use Rattle.spec_model.specs.declared.right.Held.TheVariants as held
+use Rattle.spec_model.specs.declared.right.Right.TheVariants as right
+use Rattle.spec_model.specs.declared.right.Mode.{Mode}
+use Rattle.spec_model.specs.declared.right.Mode.TheVariants as mode
+use Rattle.spec_model.specs.declared.log.LogItem.{LogItem}
+use Rattle.run_model.specs.Logs.{Logs}
+use Rattle.run_model.specs.Rights.{same_right, is_shared, even_share, first_total, held_count, body_gains, body_loses}
+use Rattle.run_model.specs.Holding.{mode_of, span_in}
+use Rattle.rights_table.specs.declared.holding.Holding.{Holding}
+use Rattle.rights_table.specs.declared.table.Table.{Table}
+use Rattle.rights_table.specs.Holdings as holdings
+use Rattle.rights_table.specs.Entries.{entry_of}
+
+-- the holding of a right that was touched
+abbrev pub entered : Table → Right → Option Holding
+entered t r = entry_of t.entries.items r
+
+-- how many replicas there are
+abbrev pub replicas_of : Table → ℕ
+replicas_of t = t.replicas
+
+-- how many are held of a right: of one that wasn't touched its share at the start
+abbrev pub count_in : Setup → Table → Right → ℕ
+count_in setup t r = option_map_or holdings.count_of (entered t r) (even_share (first_total setup r) setup.replicas t.me)
+
+-- in which mode: of one that wasn't touched forbid
+abbrev pub mode_in : Table → Right → Mode
+mode_in t r = option_map_or holdings.mode_of (entered t r) mode.Forbid
+
+-- what it tells of a right: of a cell a count, of a lock or an entry shares in their mode
+abbrev pub held_in : Setup → Table → Right → Span → Held
+held_in setup t (right.Low cell) span = held.Count (count_in setup t (right.Low cell))
+held_in setup t (right.High cell) span = held.Count (count_in setup t (right.High cell))
+held_in setup t (right.Lock lock key) span = held.Shares (count_in setup t (right.Lock lock key)) (mode_in t (right.Lock lock key))
+held_in setup t (right.Entry clause args literal) span = held.Shares (count_in setup t (right.Entry clause args literal)) (mode_in t (right.Entry clause args literal))
+held_in setup t (right.Part part key) span = held.Points None None
+
+-- what it tells of what is needed
+abbrev pub holding_in : Setup → Table → Need → Held
+holding_in setup t need = held_in setup t need.right (span_in need.amount)
+
+-- it is a replica's table by this setup
+pub record IsOf (setup : Setup) (replica : ℕ) (t : Table) : Type 0 where
+  pub me : t.me ≡ replica
+  pub replicas : t.replicas ≡ setup.replicas
+
+-- the table has what replica me holds after these items of its own log, of each of these rights: how many, and in which mode
+pub record IsTable (setup : Setup) (logs : Logs) (me : ℕ) (own : List LogItem) (among : Right → Bool) (t : Table) : Type 0 where
+  pub of : IsOf setup me t
+  pub counts : (r : Right) → among r ≡ true → count_in setup t r ≡ held_count setup logs me own r
+  pub modes : (r : Right) → among r ≡ true → is_shared r ≡ true → mode_in t r ≡ mode_of setup logs me own r
+  pub covered : (r : Right) → among r ≡ true → sum_by (λ item. body_loses setup.spec r item.body) own ≤ even_share (first_total setup r) setup.replicas me + sum_by (λ item. body_gains setup.spec logs r item.body) own
+
+-- ---- changes
+
+-- the right has an entry, for which there is room
+abbrev pub IsEntered : Table → Right → Type 0
+IsEntered t r = (h : Holding) × (entered t r ≡ Some h)
+
+-- both tell the same of all rights
+pub record TellTheSame (setup : Setup) (old new : Table) : Type 0 where
+  pub me : new.me ≡ old.me
+  pub replicas : new.replicas ≡ old.replicas
+  pub counts : (r : Right) → count_in setup new r ≡ count_in setup old r
+  pub modes : (r : Right) → mode_in new r ≡ mode_in old r
+
+-- rights that have an entry keep one
+abbrev pub KeepsEntries : Table → Table → Type 0
+KeepsEntries old new = (r : Right) → IsEntered old r → IsEntered new r
+
+-- the holding of this right becomes another, and all else stays
+pub record Becomes (r : Right) (before after : Holding) (old new : Table) : Type 0 where
+  pub me : new.me ≡ old.me
+  pub replicas : new.replicas ≡ old.replicas
+  pub was : entered old r ≡ Some before
+  pub is : (q : Right) → entered new q ≡ (if same_right r q then Some after else entered old q)
