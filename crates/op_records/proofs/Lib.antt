@@ -6,3 +6,4 @@ pub mod Counts
 pub mod Rights
 pub mod Bodies
 pub mod Batches
+pub mod Lengths

@@ -2,8 +2,10 @@
 #![tactic(auto)]
 
 mod cursor;
+mod laws;
 mod reading;
 mod writing;
 
+pub use laws::{batches_are_short, one_batch};
 pub use reading::decode_items;
 pub use writing::encode_items;

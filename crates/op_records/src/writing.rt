@@ -10,8 +10,8 @@ use run_model::Batch;
 use spec_model::{Body, LogItem, Mode, Piece, Right};
 use std::alloc::Global;
 
-/// The most bytes of an item.
-const LONGEST: usize = 59;
+/// No item has more bytes.
+const LONGEST: usize = 60;
 
 #[tactic(auto, unfolding(crate::specs::Spelling::number))]
 fn put_byte(out: &mut Items<u8>, n: u32) -> Result<(), NoMemory>
