@@ -1,0 +1,11 @@
+//! The bytes of a batch of items: one spelling for each batch.
+#![tactic(auto)]
+
+mod cursor;
+mod laws;
+mod reading;
+mod writing;
+
+pub use laws::{batches_are_short, one_batch};
+pub use reading::decode_items;
+pub use writing::encode_items;
