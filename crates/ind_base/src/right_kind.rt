@@ -9,9 +9,7 @@ use crate::refusal::NoMemory;
 #[derive(Clone, Copy, Debug, PartialEq, Eq)]
 pub enum GiveError {
     /// Less than the piece is held; so much of it is.
-    Lacks {
-        have: u64,
-    },
+    Lacks { have: u64 },
     Memory,
 }
 

@@ -31,8 +31,17 @@ numbers_short n (x ∷ xs) = omega (arith, numbers_short n xs, length-number n x
 
 named_short : (tag n : ℕ) (args : List ℕ) → AreArgs args → length (number 1 tag ++ (number 2 n ++ args_text args)) ≤ 12
 named_short tag n args are =
-    omega (arith, length-append (number 1 tag) (number 2 n ++ args_text args), length-append (number 2 n) (args_text args), length-append (number 1 (length args)) (flat_map (number 2) args),
-      length-number 1 tag, length-number 2 n, length-number 1 (length args), numbers_short 2 args, are.few)
+    omega (
+      arith,
+      length-append (number 1 tag) (number 2 n ++ args_text args),
+      length-append (number 2 n) (args_text args),
+      length-append (number 1 (length args)) (flat_map (number 2) args),
+      length-number 1 tag,
+      length-number 2 n,
+      length-number 1 (length args),
+      numbers_short 2 args,
+      are.few,
+    )
 
 span_long : (span : Span) → length (span_text span) ≡ 4
 span_long span = omega (arith, length-append (number 2 span.lo) (number 2 span.hi), length-number 2 span.lo, length-number 2 span.hi)
@@ -56,23 +65,57 @@ piece_short (piece.Points span) = omega (arith, span_long span)
 
 body_short : (replicas : ℕ) (b : Body) → IsBody replicas b → length (body_text b) ≤ 23
 body_short replicas (body.Act inst) fine =
-    omega (arith, length-append (number 1 1) (number 2 inst.op ++ spans_text inst.args), length-append (number 2 inst.op) (spans_text inst.args), length-append (number 1 (length inst.args)) (flat_map span_text inst.args),
-      length-number 1 1, length-number 2 inst.op, length-number 1 (length inst.args), spans_short inst.args, fine.1.few)
+    omega (
+      arith,
+      length-append (number 1 1) (number 2 inst.op ++ spans_text inst.args),
+      length-append (number 2 inst.op) (spans_text inst.args),
+      length-append (number 1 (length inst.args)) (flat_map span_text inst.args),
+      length-number 1 1,
+      length-number 2 inst.op,
+      length-number 1 (length inst.args),
+      spans_short inst.args,
+      fine.1.few,
+    )
 body_short replicas (body.Out to r p) fine =
-    omega (arith, length-append (number 1 2) (number 1 to ++ (right_text r ++ piece_text p)), length-append (number 1 to) (right_text r ++ piece_text p), length-append (right_text r) (piece_text p),
-      length-number 1 2, length-number 1 to, right_short r fine.1, piece_short p)
+    omega (
+      arith,
+      length-append (number 1 2) (number 1 to ++ (right_text r ++ piece_text p)),
+      length-append (number 1 to) (right_text r ++ piece_text p),
+      length-append (right_text r) (piece_text p),
+      length-number 1 2,
+      length-number 1 to,
+      right_short r fine.1,
+      piece_short p,
+    )
 body_short replicas (body.Accept from index) fine =
     omega (arith, length-append (number 1 3) (number 1 from ++ number 4 index), length-append (number 1 from) (number 4 index), length-number 1 3, length-number 1 from, length-number 4 index)
 
 item_short : (replicas : ℕ) → replicas ≤ 8 → (item : LogItem) → IsItem replicas item → length (item_text item) ≤ 60
 item_short replicas few item fine =
-    omega (arith, few, length-append ((number 1 item.origin ++ number 4 item.index) ++ flat_map (number 4) item.deps) (body_text item.body), length-append (number 1 item.origin ++ number 4 item.index) (flat_map (number 4) item.deps),
-      length-append (number 1 item.origin) (number 4 item.index), length-number 1 item.origin, length-number 4 item.index, numbers_short 4 item.deps, fine.past, body_short replicas item.body fine.body)
+    omega (
+      arith,
+      few,
+      length-append ((number 1 item.origin ++ number 4 item.index) ++ flat_map (number 4) item.deps) (body_text item.body),
+      length-append (number 1 item.origin ++ number 4 item.index) (flat_map (number 4) item.deps),
+      length-append (number 1 item.origin) (number 4 item.index),
+      length-number 1 item.origin,
+      length-number 4 item.index,
+      numbers_short 4 item.deps,
+      fine.past,
+      body_short replicas item.body fine.body,
+    )
 
 pub batch_short : (replicas : ℕ) (items : List LogItem) → IsBatch replicas items → length (batch_text replicas items) ≤ 2403
 batch_short replicas items fine =
-    omega (arith, length-append (number 2 (length items) ++ number 1 replicas) (flat_map item_text items), length-append (number 2 (length items)) (number 1 replicas), length-number 2 (length items), length-number 1 replicas,
-      many_short item_text 60 items (each (item_short replicas fine.few_replicas) items fine.each), fine.few)
+    omega (
+      arith,
+      length-append (number 2 (length items) ++ number 1 replicas) (flat_map item_text items),
+      length-append (number 2 (length items)) (number 1 replicas),
+      length-number 2 (length items),
+      length-number 1 replicas,
+      many_short item_text 60 items (each (item_short replicas fine.few_replicas) items fine.each),
+      fine.few,
+    )
 
 pub batch_some : (replicas : ℕ) (items : List LogItem) → 0 < length (batch_text replicas items)
 batch_some replicas items =

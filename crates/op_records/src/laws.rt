@@ -7,11 +7,9 @@ ghost use Rattle.op_records.specs.Spelling.{IsBatch, batch_text, Spells};
 /// No bytes spell two batches.
 pub fn one_batch()
     ensures { (bytes : List ℕ) (xs ys : List LogItem) → Spells bytes xs → Spells bytes ys → xs ≡ ys }
-{
-}
+{}
 
 /// A batch of 40 items, each of at most 60 bytes, is the longest.
 pub fn batches_are_short()
     ensures { (replicas : ℕ) (items : List LogItem) → IsBatch replicas items → length (batch_text replicas items) ≤ 2403 }
-{
-}
+{}
