@@ -21,7 +21,7 @@ use std::alloc::Global;
 /// The items that were applied, of each log in its order.
 ///
 /// The state is that of the set of all acts among them, whatever the order in which they came.
-#[derive(Debug, Drop)]
+#[derive(Drop)]
 pub struct Store {
     logs: Vec<Vec<LogItem>>,
     cut: Cut,

@@ -12,7 +12,7 @@ use spec_model::Spec;
 use std::alloc::Global;
 
 /// Of a declaration, the place of its first tuple, and how many elements its sorts have.
-#[derive(Clone, Copy, Debug)]
+#[derive(Clone, Copy)]
 pub(crate) struct Block {
     pub(crate) start: usize,
     pub(crate) sizes: Args,

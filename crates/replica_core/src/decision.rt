@@ -4,7 +4,7 @@ use run_model::Batch;
 use spec_model::{Broken, Lacking};
 
 /// What a replica answers to a request: it would break a clause, it is short of a need, or it acts.
-#[derive(Debug, Drop)]
+#[derive(Drop)]
 pub enum Decision {
     Breaks(Broken),
     Short(Lacking),
@@ -13,7 +13,7 @@ pub enum Decision {
 
 /// What a replica does with a message. The batch has `applied` items of the message, then
 /// `accepted` Accepts and then `gave` Outs of its own.
-#[derive(Debug, Drop)]
+#[derive(Drop)]
 pub struct Taken {
     pub batch: Batch,
     pub applied: u32,

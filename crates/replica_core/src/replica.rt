@@ -27,7 +27,7 @@ use std::alloc::Global;
 
 /// A replica: what it has applied, what it holds of the rights to lower cells, what it wants, and
 /// what the others told it that they have seen.
-#[derive(Debug, Drop)]
+#[derive(Drop)]
 pub struct Replica {
     pub(crate) me: u32,
     pub(crate) store: Store,

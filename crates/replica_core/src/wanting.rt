@@ -89,7 +89,7 @@ fn instead_of(old: &Want, want: &Want) -> Want
 }
 
 /// What a replica lacked: at most eight wants, for which there is always room.
-#[derive(Debug, Drop)]
+#[derive(Drop)]
 pub(crate) struct Wants {
     items: Vec<Want>,
 }

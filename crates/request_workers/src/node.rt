@@ -23,7 +23,7 @@ use spec_model::{Inst, Setup};
 use std::alloc::Global;
 
 /// A replica, the stamp of its last step, and the entries of its steps so far.
-#[derive(Debug, Drop)]
+#[derive(Drop)]
 pub(crate) struct Node {
     pub(crate) replica: Replica,
     pub(crate) stamp: u64,

@@ -6,21 +6,21 @@ use run_model::{Ask, Order};
 use spec_model::Spec;
 
 /// A stop of a replica's disk.
-#[derive(Clone, Copy, Debug, PartialEq, Eq)]
+#[derive(Clone, Copy)]
 pub struct StopLine {
     pub replica: u32,
     pub stop: Stop,
 }
 
 /// What a client asks of its replica.
-#[derive(Clone, Copy, Debug)]
+#[derive(Clone, Copy)]
 pub struct ClientAsk {
     pub client: u32,
     pub ask: Ask,
 }
 
 /// The work of a run.
-#[derive(Debug, Drop)]
+#[derive(Drop)]
 pub enum Work {
     /// A schedule, whose lines are taken one after the other.
     Schedule(List<Order>),
@@ -34,7 +34,7 @@ pub enum Work {
 }
 
 /// A specification with a run of it.
-#[derive(Debug, Drop)]
+#[derive(Drop)]
 pub struct Document {
     pub spec: Spec,
     /// How many replicas there are: 1 to 8.
