@@ -4,7 +4,7 @@ use ground_clauses::Derivation;
 use ind_base::List;
 
 /// A lock or a partition of the plan separates the case, or its query has no model.
-#[derive(Debug, Drop, PartialEq, Eq)]
+#[derive(Drop)]
 pub enum CertLine {
     SepLock(u32),
     SepPart(u32),
@@ -12,7 +12,7 @@ pub enum CertLine {
 }
 
 /// A line for each touched case in canonical order.
-#[derive(Debug, Drop, PartialEq, Eq)]
+#[derive(Drop)]
 pub struct Certificate {
     pub lines: List<CertLine>,
 }

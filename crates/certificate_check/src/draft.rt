@@ -16,7 +16,7 @@ use std::alloc::Global;
 use std::mem;
 
 /// Where a text is.
-#[derive(Clone, Copy, Debug)]
+#[derive(Clone, Copy)]
 pub(crate) enum Stage {
     /// Before its plan.
     Start,
@@ -29,7 +29,7 @@ pub(crate) enum Stage {
 }
 
 /// What was read so far.
-#[derive(Debug, Drop)]
+#[derive(Drop)]
 pub(crate) struct Draft {
     pub(crate) stage: Stage,
     pub(crate) locks: List<LockKind>,

@@ -91,7 +91,7 @@ fn flaw<'a>(
 }
 
 /// How far a check has come: a case failed, or the line at this place comes next.
-#[derive(Clone, Copy, Debug)]
+#[derive(Clone, Copy)]
 enum Walk {
     Fails { case: u32, why: Why },
     Goes(u32),

@@ -16,7 +16,7 @@ use std::alloc::Global;
 
 /// What lines are: a plan and a certificate, or no text of them. `line` is the first line that is
 /// refused, from 1; where lines are missing it is one more than there are.
-#[derive(Debug, Drop)]
+#[derive(Drop)]
 pub enum Read {
     Parts {
         plan: Plan,

@@ -14,7 +14,7 @@ use ind_base::{List, NoMemory};
 use std::alloc::Global;
 
 /// What a clause has left.
-#[derive(Clone, Copy, Debug)]
+#[derive(Clone, Copy)]
 enum Rest {
     Nothing,
     One(Lit),
@@ -22,7 +22,7 @@ enum Rest {
 }
 
 /// What a hint does: it ends the step, or makes one more literal false.
-#[derive(Clone, Copy, Debug)]
+#[derive(Clone, Copy)]
 enum Turn {
     Ends(bool),
     Goes(Lit),

@@ -1,7 +1,7 @@
 //! What a check says.
 
 /// Why a case's line isn't the one that it has to have.
-#[derive(Clone, Copy, Debug, PartialEq, Eq)]
+#[derive(Clone, Copy)]
 pub enum Why {
     /// The lines end before this case.
     Missing,
@@ -16,7 +16,7 @@ pub enum Why {
 }
 
 /// Whether a certificate checks, and else the first case, from 0, that fails.
-#[derive(Clone, Copy, Debug, PartialEq, Eq)]
+#[derive(Clone, Copy)]
 pub enum Verdict {
     Yes,
     No { case: u32, why: Why },

@@ -5,7 +5,7 @@ use ind_base::{List, Text};
 use spec_model::Pair;
 
 /// A lock or a partition: its number, the names of its two operations, and its key.
-#[derive(Debug, Drop)]
+#[derive(Drop)]
 pub struct KindLine {
     pub number: u32,
     pub first: Text,
@@ -14,7 +14,7 @@ pub struct KindLine {
 }
 
 /// A line of a plan or a certificate.
-#[derive(Debug, Drop)]
+#[derive(Drop)]
 pub enum TextLine {
     /// `plan`
     Plan,

@@ -8,7 +8,7 @@ use ind_base::{List, NoMemory};
 use thiserror::Error;
 
 /// What is found of clauses.
-#[derive(Debug, Drop)]
+#[derive(Drop)]
 pub enum Answer {
     /// Their least model, a truth for each variable: of two models that one is less which is false
     /// at the first variable at which they differ.
@@ -18,7 +18,7 @@ pub enum Answer {
 }
 
 /// Why clauses aren't solved.
-#[derive(Clone, Copy, Debug, PartialEq, Eq, Error)]
+#[derive(Clone, Copy, Debug, Error)]
 pub enum SolveError {
     /// There are more than 128 variables.
     #[error("{variables} variables are too many")]

@@ -15,7 +15,7 @@ use spec_model::Spec;
 use std::alloc::Global;
 
 /// What is found of a touched case.
-#[derive(Debug, Drop)]
+#[derive(Drop)]
 pub enum Decided {
     /// The two operations give the locked predicate's atom opposite truths.
     Opposes,

@@ -15,7 +15,7 @@ use spec_model::Spec;
 use std::alloc::Global;
 
 /// What two operations can do to one another.
-#[derive(Debug, Drop)]
+#[derive(Drop)]
 pub enum PairKind {
     /// Together they can make a clause false: the first case in canonical order whose query has a
     /// model, and the least model.

@@ -4,14 +4,14 @@ use ind_base::List;
 use spec_model::{Atom, Cell};
 
 /// An atom, and the truth that it gets.
-#[derive(Clone, Copy, Debug, PartialEq, Eq)]
+#[derive(Clone, Copy, PartialEq, Eq)]
 pub struct AtomChange {
     pub atom: Atom,
     pub truth: bool,
 }
 
 /// A cell, and by how much it rises; a negative number for a fall.
-#[derive(Clone, Copy, Debug, PartialEq, Eq)]
+#[derive(Clone, Copy, PartialEq, Eq)]
 pub struct CellChange {
     pub cell: Cell,
     pub by: i64,

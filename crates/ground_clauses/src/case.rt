@@ -3,7 +3,7 @@
 use spec_model::Classes;
 
 /// What a case is about: a clause that isn't marked, or a locked predicate, by its place.
-#[derive(Clone, Copy, Debug, PartialEq, Eq)]
+#[derive(Clone, Copy, Debug)]
 pub enum Target {
     Clause(u32),
     Locked(u32),
@@ -11,7 +11,7 @@ pub enum Target {
 
 /// Operations `a` and `b` in declaration order, a target, and a class number for each of the
 /// pattern's elements: the plain parameters of `a`, those of `b`, and the target's variables.
-#[derive(Clone, Copy, Debug, PartialEq, Eq)]
+#[derive(Clone, Copy, Debug)]
 pub struct Case {
     pub a: u32,
     pub b: u32,

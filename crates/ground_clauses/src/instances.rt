@@ -19,7 +19,7 @@ use ind_base::{List, NoMemory};
 use spec_model::{Args, Atom, Clause, Literal, Spec, Var};
 
 /// A clause of the specification at classes.
-#[derive(Clone, Copy, Debug)]
+#[derive(Clone, Copy)]
 pub(crate) struct Instance<'a> {
     pub(crate) clause: &'a Clause,
     pub(crate) classes: Args,
@@ -113,7 +113,7 @@ fn meets_target(target: &[Atom], clause: &Clause, classes: &[u32]) -> bool
 
 /// What the hypotheses of a case are looked for by: the pattern's sorts and classes, and the atoms
 /// of the target.
-#[derive(Clone, Copy, Debug)]
+#[derive(Clone, Copy)]
 pub(crate) struct Search<'a> {
     pub(crate) sorts: &'a [u32],
     pub(crate) classes: &'a [u32],

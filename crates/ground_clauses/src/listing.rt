@@ -120,7 +120,7 @@ pub(crate) fn size_of(spec: &Spec, sort: u32) -> u32
 }
 
 /// Two operations and a target, with the sorts of their pattern.
-#[derive(Clone, Copy, Debug)]
+#[derive(Clone, Copy)]
 struct Shape<'a> {
     spec: &'a Spec,
     a: u32,

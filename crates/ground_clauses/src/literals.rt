@@ -69,14 +69,14 @@ fn same_lit(first: &StateLit, second: &StateLit) -> bool
 }
 
 /// A literal with the number of its variable.
-#[derive(Clone, Copy, Debug)]
+#[derive(Clone, Copy)]
 pub(crate) struct KnownLit {
     pub(crate) lit: StateLit,
     pub(crate) number: u32,
 }
 
 /// What a literal of a clause is in a state: certain, or a literal of a variable with its number.
-#[derive(Clone, Copy, Debug)]
+#[derive(Clone, Copy)]
 pub(crate) enum KnownForm {
     Certain(bool),
     Open(KnownLit),
@@ -250,7 +250,7 @@ fn add_clause_forms(
 }
 
 /// Room for the literals of one clause, as they come and each once.
-#[derive(Debug, Drop)]
+#[derive(Drop)]
 pub(crate) struct ClauseRoom {
     lits: List<KnownLit>,
     pub(crate) once: List<KnownLit>,

@@ -109,7 +109,7 @@ fn list_variables(
 
 /// What a query is about: its hypotheses, their atoms, and the variables of these, in lists that are
 /// used again for the next query.
-#[derive(Debug, Drop)]
+#[derive(Drop)]
 pub(crate) struct Subject<'a> {
     target: List<Atom>,
     pub(crate) found: List<Instance<'a>>,
@@ -166,7 +166,7 @@ pub(crate) fn number_of(variables: &[Variable], variable: &Variable) -> usize
 }
 
 /// A query that is being made: its case and its variables.
-#[derive(Clone, Copy, Debug)]
+#[derive(Clone, Copy)]
 pub(crate) struct Asked<'a> {
     pub(crate) spec: &'a Spec,
     pub(crate) case: &'a Case,
@@ -174,7 +174,7 @@ pub(crate) struct Asked<'a> {
 }
 
 /// The clauses of a query that is being made, and lists of earlier clauses that are used again.
-#[derive(Debug, Drop)]
+#[derive(Drop)]
 pub(crate) struct Draft {
     pub(crate) cnf: Cnf,
     spare: List<List<Lit>>,
@@ -487,7 +487,7 @@ fn make_query(
 }
 
 /// Room in which queries are made, one after another: each takes the lists that the last one had.
-#[derive(Debug, Drop)]
+#[derive(Drop)]
 pub struct Queries<'a> {
     subject: Subject<'a>,
     rows: List<Row>,

@@ -17,14 +17,14 @@ use spec_model::{Atom, Entry, Moment};
 
 /// An atom's truth in a state: the winning one for certain, or that of the variable of this state,
 /// which has this number.
-#[derive(Clone, Copy, Debug)]
+#[derive(Clone, Copy)]
 pub(crate) enum Seen {
     Always,
     Same { moment: Moment, number: u32 },
 }
 
 /// An atom of a query, the truth that wins there, and what it is in the four states.
-#[derive(Clone, Copy, Debug)]
+#[derive(Clone, Copy)]
 pub(crate) struct Row {
     pub(crate) atom: Atom,
     pub(crate) wins: bool,
@@ -138,7 +138,7 @@ pub(crate) fn list_rows(
 }
 
 /// A query that is being made, with the rows of its atoms. The slots name the place of an atom's row.
-#[derive(Clone, Copy, Debug)]
+#[derive(Clone, Copy)]
 pub(crate) struct Looking<'a> {
     pub(crate) asked: Asked<'a>,
     pub(crate) rows: &'a [Row],

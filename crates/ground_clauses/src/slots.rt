@@ -8,7 +8,7 @@ use std::alloc::Global;
 
 /// For each atom, by a number that is made of it, a place at which it may stand in a list. What is
 /// named is tried and never relied on, so the places stay as they are where a new list begins.
-#[derive(Debug, Drop)]
+#[derive(Drop)]
 pub(crate) struct Slots {
     places: Vec<usize>,
 }

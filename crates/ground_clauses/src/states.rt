@@ -17,7 +17,7 @@ use std::alloc::Global;
 
 /// An atom at classes, and its truth without both operations, with the first, with the second, and
 /// with both.
-#[derive(Clone, Copy, Debug, PartialEq, Eq)]
+#[derive(Clone, Copy)]
 pub struct AtomStates {
     pub atom: Atom,
     pub start: bool,

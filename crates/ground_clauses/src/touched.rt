@@ -124,7 +124,7 @@ pub fn target_classes<'a>(spec: &Spec, case: &'a Case) -> &'a [u32]
 }
 
 /// One of the two operations of a case.
-#[derive(Clone, Copy, Debug)]
+#[derive(Clone, Copy)]
 enum Side {
     One,
     Other,

@@ -7,7 +7,7 @@ use ind_base::List;
 use std::marker::Model;
 
 /// The touched cases that are still to come, in canonical order.
-#[derive(Debug, Drop)]
+#[derive(Drop)]
 pub struct Cases {
     items: List<Case>,
     at: usize,

@@ -7,14 +7,14 @@ use crate::few::Few;
 use std::marker::Model;
 
 /// The numbers from `lo` up to `hi`, both counted in. A single number `n` is the span from `n` to `n`.
-#[derive(Clone, Copy, Debug, PartialEq, Eq)]
+#[derive(Clone, Copy, PartialEq, Eq)]
 pub struct Span {
     pub lo: u32,
     pub hi: u32,
 }
 
 /// At most four spans, which are copied with the value and hold no heap.
-#[derive(Clone, Copy, Debug)]
+#[derive(Clone, Copy)]
 pub struct Spans {
     lows: Few<4>,
     highs: Few<4>,

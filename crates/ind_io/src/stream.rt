@@ -12,11 +12,11 @@ use std::alloc::Global;
 use thiserror::Error;
 
 /// A source didn't give bytes: its count of faults rose, and the bytes are all still to come.
-#[derive(Clone, Copy, Debug, PartialEq, Eq)]
+#[derive(Clone, Copy)]
 pub struct SourceFailed;
 
 /// A sink didn't take bytes: its count of faults rose, and it holds what it held.
-#[derive(Clone, Copy, Debug, PartialEq, Eq)]
+#[derive(Clone, Copy)]
 pub struct SinkFailed;
 
 /// Bytes that come. Its counts stand still at the last value of a `u64`.

@@ -10,7 +10,7 @@ use ind_base::NoMemory;
 use thiserror::Error;
 
 /// Why a line is refused, in the order in which the causes are looked for within a line.
-#[derive(Clone, Copy, Debug, PartialEq, Eq)]
+#[derive(Clone, Copy, Debug)]
 pub enum Cause {
     /// A byte is neither a tab nor one of 32 to 126.
     NotAscii,
@@ -39,14 +39,14 @@ pub enum Cause {
 }
 
 /// Why a part of a line is not read.
-#[derive(Clone, Copy, Debug, PartialEq, Eq)]
+#[derive(Clone, Copy)]
 pub enum FormError {
     Memory,
     Refused,
 }
 
 /// Why one line is not taken.
-#[derive(Clone, Copy, Debug, PartialEq, Eq)]
+#[derive(Clone, Copy)]
 pub enum LineError {
     Memory,
     Refused(Cause),
@@ -54,7 +54,7 @@ pub enum LineError {
 
 /// Why a text is not read. `line` is the first line that is refused, from 1, and `cause` its first
 /// cause.
-#[derive(Clone, Copy, Debug, PartialEq, Eq, Error)]
+#[derive(Clone, Copy, Debug, Error)]
 pub enum ParseError {
     #[error("out of memory")]
     Memory,

@@ -14,7 +14,7 @@ use std::alloc::Global;
 const WORD_LEN: usize = 32;
 
 /// A token of a line.
-#[derive(Debug, Drop)]
+#[derive(Drop)]
 pub enum Token {
     /// A lower-case letter, then letters, digits and `_`, at most 32 bytes.
     Word(Text),

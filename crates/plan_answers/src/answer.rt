@@ -8,7 +8,7 @@ use itoa::Buffer;
 use std::alloc::Global;
 
 /// A status and a text.
-#[derive(Debug, Drop)]
+#[derive(Drop)]
 pub struct Answer {
     pub status: u8,
     pub text: Text,

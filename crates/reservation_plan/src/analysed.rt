@@ -10,7 +10,7 @@ use spec_model::Plan;
 use thiserror::Error;
 
 /// The derived plan, and a certificate that checks.
-#[derive(Debug, Drop)]
+#[derive(Drop)]
 pub struct Analysed {
     pub plan: Plan,
     pub certificate: Certificate,

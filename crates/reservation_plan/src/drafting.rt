@@ -17,7 +17,7 @@ use spec_model::{LockKind, Pair, Spec};
 use std::alloc::Global;
 
 /// What keeps a pair of operations apart, and where the next lock and partition stand in the plan.
-#[derive(Clone, Copy, Debug)]
+#[derive(Clone, Copy)]
 struct Place<'a> {
     spec: &'a Spec,
     reservation: &'a Reservation,
@@ -62,7 +62,7 @@ fn add_lines(
 }
 
 /// The locks and partitions so far, and the lines of the cases so far.
-#[derive(Debug, Drop)]
+#[derive(Drop)]
 pub(crate) struct Draft {
     pub(crate) locks: List<LockKind>,
     pub(crate) parts: List<LockKind>,

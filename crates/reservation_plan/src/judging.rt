@@ -22,7 +22,7 @@ const MOST_STEPS: usize = 4294967294;
 
 /// What is found of a case: that it is conflicting, by a model where it is about a clause, or a
 /// derivation that it isn't.
-#[derive(Debug, Drop)]
+#[derive(Drop)]
 enum Finding {
     Conflicts(Option<Items<bool>>),
     Harmless(Derivation),
@@ -67,14 +67,14 @@ fn is_declared_free(spec: &Spec, a: u32, b: u32) -> bool
 }
 
 /// A case, with a derivation where it isn't conflicting.
-#[derive(Debug, Drop)]
+#[derive(Drop)]
 pub(crate) struct Judged {
     pub(crate) case: Case,
     pub(crate) derivation: Derivation,
 }
 
 /// Cases in their order, and the conflicting ones among them.
-#[derive(Debug, Drop)]
+#[derive(Drop)]
 pub(crate) struct Judgements {
     pub(crate) judged: Items<Judged>,
     pub(crate) conflicts: Items<Case>,

@@ -16,7 +16,7 @@ use spec_model::{LockKind, Pair, Spec, Var};
 use std::alloc::Global;
 
 /// What keeps two operations apart.
-#[derive(Debug, Drop)]
+#[derive(Drop)]
 pub(crate) enum Reservation {
     Nothing,
     Lock(LockKind),
@@ -24,7 +24,7 @@ pub(crate) enum Reservation {
 }
 
 /// Two operations, with their conflicting cases.
-#[derive(Clone, Copy, Debug)]
+#[derive(Clone, Copy)]
 pub(crate) struct Conflict<'a> {
     pub(crate) spec: &'a Spec,
     pub(crate) a: u32,

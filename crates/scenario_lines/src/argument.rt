@@ -8,7 +8,7 @@ use line_text::{FormError, Item, Token, after_mark, ended, number_at};
 use std::alloc::Global;
 
 /// An argument: a number, or `LO-HI`.
-#[derive(Clone, Copy, Debug)]
+#[derive(Clone, Copy)]
 pub enum NamedArg {
     One(u64),
     Span { lo: u64, hi: u64 },

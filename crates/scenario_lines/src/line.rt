@@ -4,7 +4,7 @@ use crate::argument::NamedArg;
 use ind_base::{List, Text};
 
 /// A line behind the specification.
-#[derive(Debug, Drop)]
+#[derive(Drop)]
 pub enum RunLine {
     /// `replicas N`
     Replicas(u64),

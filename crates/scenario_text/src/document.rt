@@ -6,7 +6,7 @@ use run_model::{Ask, Order};
 use spec_model::Spec;
 
 /// A stop of a replica's disk.
-#[derive(Clone, Copy, Debug, PartialEq, Eq)]
+#[derive(Clone, Copy)]
 pub struct StopLine {
     pub replica: u32,
     pub stop: Stop,

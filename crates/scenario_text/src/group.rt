@@ -11,7 +11,7 @@ ghost use Rattle.scenario_text.specs.Reading.{IsDocument, document_of};
 use line_text::{before_comment, next_run, same, split_line};
 
 /// Words that lines of a document may hold.
-#[derive(Clone, Copy, Debug)]
+#[derive(Clone, Copy)]
 pub enum Group {
     /// What no run understands yet.
     Unbuilt,

@@ -22,7 +22,7 @@ use spec_model::{Clause, Literal, Num, Op, Pair, Pred, Rule, Sort, Spec, Var};
 use std::alloc::Global;
 
 /// What a specification is so far.
-#[derive(Debug, Drop)]
+#[derive(Drop)]
 pub struct SpecDraft {
     /// The rank of the last line: 1 for sorts, 2 for predicates, 3 for numbers, 4 for clauses, 5 for
     /// operations, 6 for free pairs; 0 at first.

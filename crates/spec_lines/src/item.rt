@@ -8,14 +8,14 @@ use line_text::{FormError, Item, Token, after_mark, ended, flag_at, is_mark, wor
 use std::alloc::Global;
 
 /// A variable of a clause: `VAR:SORT`.
-#[derive(Debug, Drop)]
+#[derive(Drop)]
 pub struct NamedVar {
     pub name: Text,
     pub sort: Text,
 }
 
 /// A parameter of an operation: `PAR:SORT`, and whether `interval` follows.
-#[derive(Debug, Drop)]
+#[derive(Drop)]
 pub struct NamedParam {
     pub name: Text,
     pub sort: Text,
@@ -23,7 +23,7 @@ pub struct NamedParam {
 }
 
 /// A parameter, or `*`.
-#[derive(Debug, Drop)]
+#[derive(Drop)]
 pub enum NamedTerm {
     Param(Text),
     Every,

@@ -5,14 +5,14 @@ use ind_base::{List, Text};
 use spec_model::Rule;
 
 /// `NAME(VAR,VAR)` or `VAR = VAR`.
-#[derive(Debug, Drop)]
+#[derive(Drop)]
 pub enum NamedLiteral {
     Atom { pred: Text, vars: List<Text> },
     Equal { left: Text, right: Text },
 }
 
 /// A line of a specification.
-#[derive(Debug, Drop)]
+#[derive(Drop)]
 pub enum SpecLine {
     /// `sort NAME SIZE`
     Sort {
