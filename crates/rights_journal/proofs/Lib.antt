@@ -1,0 +1,10 @@
+mod Texts
+mod Moments
+mod Places
+mod Fresh
+mod Frames
+mod Once
+mod Added
+mod Stored
+mod Headers
+mod Starts

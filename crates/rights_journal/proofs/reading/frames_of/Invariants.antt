@@ -1,0 +1,11 @@
+use Rattle.std.proofs.Common.{◌≡◌, ◌<◌, ◌++◌, length}
+use Rattle.std.specs.List.{AllByRecursion}
+use Rattle.rights_journal.specs.Image.{opened}
+use Rattle.rights_journal.proofs.reading.frames_of.Given as goal
+use Rattle.rights_journal.specs.Batches.{IsSpelled}
+
+abbrev pub invariant-frames : goal.invariant-frames
+invariant-frames l = (l.bytes ≡ opened l.replicas l.batches ++ l.rest) × (0 < length l.rest) × AllByRecursion (IsSpelled l.replicas) l.batches
+
+abbrev pub decreases-frames : goal.decreases-frames
+decreases-frames l = length l.rest
