@@ -4,14 +4,14 @@ use Rattle.std.specs.Prelude.{None, slice_get}
 use Rattle.std.specs.List.{AllByRecursion}
 use Rattle.std.specs.Option.{option_map_or}
 use Rattle.spec_model.specs.declared.spec.Num.{Num}
-use Rattle.spec_model.specs.declared.spec.Spec.{Spec}
+use Rattle.spec_model.specs.declared.plan.Setup.{Setup}
 use Rattle.spec_model.specs.declared.log.LogItem.{LogItem}
-use Rattle.run_model.specs.Fitting.{ItemFits}
+use Rattle.run_model.specs.Fitting.{IsPlaced}
 use Rattle.run_model.specs.Logs.{Logs, log_at}
 use Rattle.run_model.proofs.Lists.{each_append}
 use Rattle.causal_store.specs.Stores.{IsStore, cut_in, logs_in}
 use Rattle.causal_store.specs.declared.store.Store.{Store}
-use Rattle.replica_core.specs.Tables.{HasNoUpper}
+use Rattle.replica_core.specs.Tables.{HasLowsAlone}
 
 pub each_push : {X : Type 0} (P : X → Type 0) (xs : List X) (x : X) → AllByRecursion P xs → P x → AllByRecursion P (xs ++ x ∷ [])
 each_push P xs x h k = each_append P xs (x ∷ []) h (k, tt)
@@ -22,8 +22,9 @@ no_most [] n all = refl
 no_most (num ∷ nums) zero all = all.0
 no_most (num ∷ nums) (suc n) all = no_most nums n all.1
 
-pub no_upper : (spec : Spec) → AllByRecursion (λ (num : Num). num.max ≡ None) spec.nums → HasNoUpper spec
-no_upper spec all = λ cell. no_most spec.nums cell.num all
+-- so a setup with an empty plan has rights to lower alone
+pub lows_alone : (setup : Setup) → AllByRecursion (λ (num : Num). num.max ≡ None) setup.spec.nums → setup.plan.locks ≡ [] → setup.plan.masks ≡ [] → setup.plan.parts ≡ [] → HasLowsAlone setup
+lows_alone setup all locks masks parts = record { upper = λ cell. no_most setup.spec.nums cell.num all; locks = locks; masks = masks; parts = parts }
 
 -- two short logs
 pub short_logs : (logs : Logs) → length logs ≡ 2 → length (log_at logs 0) ≤ 1000 → length (log_at logs 1) ≤ 1000 → AllByRecursion (λ log. length log ≤ 4194304) logs
@@ -33,14 +34,14 @@ short_logs (x ∷ y ∷ []) two a b = (omega (arith, a), (omega (arith, b), tt))
 short_logs (x ∷ y ∷ z ∷ logs) two a b = absurd (omega (arith, two))
 
 -- a store, by how many logs it has
-pub as_whole : (spec : Spec) (n : ℕ) (s : Store) → IsStore spec n s → IsStore spec (length (logs_in s)) s
-as_whole spec n s own = subst (λ k. IsStore spec k s) (sym own.whole) own
+pub as_whole : (n : ℕ) (s : Store) → IsStore n s → IsStore (length (logs_in s)) s
+as_whole n s own = subst (λ k. IsStore k s) (sym own.whole) own
 
 -- one with the same items is a store too
-pub same_store : (spec : Spec) (n : ℕ) (old new : Store) → IsStore spec n old → logs_in new ≡ logs_in old → cut_in new ≡ cut_in old → IsStore spec n new
-same_store spec n old new own logs cut = record {
+pub same_store : (n : ℕ) (old new : Store) → IsStore n old → logs_in new ≡ logs_in old → cut_in new ≡ cut_in old → IsStore n new
+same_store n old new own logs cut = record {
   whole = ap length logs ∙ own.whole;
   few = own.few;
   counts = cut ∙ own.counts ∙ ap (map (λ (l : List LogItem). length l)) (sym logs);
-  fits = subst (AllByRecursion (AllByRecursion (ItemFits spec n))) (sym logs) own.fits;
+  fits = subst (AllByRecursion (AllByRecursion (IsPlaced n))) (sym logs) own.fits;
 }

@@ -4,8 +4,6 @@
 #[cfg(test)]
 mod decision_tests;
 #[cfg(test)]
-mod heeding_tests;
-#[cfg(test)]
 mod replicas;
 #[cfg(test)]
 mod shop;

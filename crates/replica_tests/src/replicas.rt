@@ -3,21 +3,22 @@
 ghost use Rattle.std.specs.Prelude.{◌≡◌, [], IfOk, OnOk};
 ghost use Rattle.spec_model.specs.Fits.{InstFits, IsWellFormed};
 ghost use Rattle.replica_core.specs.Replicas.{HasRoom, IsReplica};
-ghost use Rattle.replica_core.specs.Tables.{HasNoUpper};
+ghost use Rattle.replica_core.specs.Tables.{HasLowsAlone};
 ghost use Rattle.replica_tests.specs.Acting.{HasActed, IsUp};
 
 use crate::shop::{inst, stock};
 use crate::stores::cut;
 use effect_model::inst_fits;
 use ind_base::{List as Items, NoMemory};
-use replica_core::{Decision, Replica};
+use replica_core::{Decision, Replica, commits_more};
 use run_model::{Batch, Message};
 use spec_model::{Amount, Broken, Held, Inst, Right, Setup};
 use std::alloc::Global;
 
 /// Replica 0 before its first step.
-pub(crate) fn begin(alloc: Global, setup: &Setup) -> Result<Replica, NoMemory>
+fn begin(alloc: Global, setup: &Setup) -> Result<Replica, NoMemory>
     requires well_formed { IsWellFormed setup.now.spec }
+    requires alone { HasLowsAlone setup.now }
     requires two { setup.now.replicas ≡ 2 }
     ensures acted { IfOk result (HasActed setup.now []) }
     ensures up { IfOk result (IsUp setup.now) }
@@ -26,14 +27,13 @@ pub(crate) fn begin(alloc: Global, setup: &Setup) -> Result<Replica, NoMemory>
 }
 
 /// What it decides on a request.
-pub(crate) fn request(
+fn request(
     alloc: Global,
     setup: &Setup,
     replica: &Replica,
     inst: &Inst,
 ) -> Result<Decision, NoMemory>
     requires well_formed { IsWellFormed setup.now.spec }
-    requires lower { HasNoUpper setup.now.spec }
     requires up { IsUp setup.now replica.now }
     requires fits { InstFits setup.now.spec inst.now }
 {
@@ -41,7 +41,7 @@ pub(crate) fn request(
 }
 
 /// Commits an act, if it decides on one, and keeps the batch. Says whether it did.
-pub(crate) fn act(
+fn act(
     alloc: Global,
     setup: &Setup,
     replica: &mut Replica,
@@ -49,7 +49,6 @@ pub(crate) fn act(
     inst: &Inst,
 ) -> Result<bool, NoMemory>
     requires well_formed { IsWellFormed setup.now.spec }
-    requires lower { HasNoUpper setup.now.spec }
     requires acted { HasActed setup.now batches.old replica.old }
     requires fits { InstFits setup.now.spec inst.now }
     ensures acted { OnOk result (HasActed setup.now batches.new replica.new) }
@@ -61,6 +60,7 @@ pub(crate) fn act(
     let Decision::Act(batch) = replica.request(alloc, setup, inst)? else {
         return Ok(false);
     };
+    commits_more();
     replica.ready(setup, &batch)?;
     replica.commit_act(setup, &batch);
     let _so_far = batches.as_slice();
@@ -71,7 +71,7 @@ pub(crate) fn act(
 /// Replica 0 once it has opened item 0 and sold the one that it may sell, with its batches.
 fn has_sold(alloc: Global, setup: &Setup, batches: &mut Items<Batch>) -> Result<Replica, NoMemory>
     requires well_formed { IsWellFormed setup.now.spec }
-    requires lower { HasNoUpper setup.now.spec }
+    requires alone { HasLowsAlone setup.now }
     requires two { setup.now.replicas ≡ 2 }
     requires none { batches.old ≡ [] }
     ensures acted { IfOk result (HasActed setup.now batches.new) }
@@ -113,7 +113,7 @@ struct Pair {
 
 fn pair_of(alloc: Global, setup: &Setup) -> Result<Pair, NoMemory>
     requires well_formed { IsWellFormed setup.now.spec }
-    requires lower { HasNoUpper setup.now.spec }
+    requires alone { HasLowsAlone setup.now }
     requires two { setup.now.replicas ≡ 2 }
     ensures first { IfOk result (λ p. IsUp setup.now p.first) }
     ensures again { IfOk result (λ p. IsUp setup.now p.again) }
@@ -127,7 +127,6 @@ fn pair_of(alloc: Global, setup: &Setup) -> Result<Pair, NoMemory>
 /// Wants what it is short of, if it is.
 fn want(alloc: Global, setup: &Setup, replica: &mut Replica, inst: &Inst) -> Result<bool, NoMemory>
     requires well_formed { IsWellFormed setup.now.spec }
-    requires lower { HasNoUpper setup.now.spec }
     requires up { IsUp setup.now replica.old }
     requires fits { InstFits setup.now.spec inst.now }
     ensures own { OnOk result (IsReplica setup.now 0 replica.new) }
@@ -153,7 +152,7 @@ fn send(alloc: Global, setup: &Setup, replica: &Replica) -> Result<Message, NoMe
 /// What each of them sends once the first wants more to sell.
 pub(crate) fn messages(alloc: Global, setup: &Setup) -> Result<(Message, Message), NoMemory>
     requires well_formed { IsWellFormed setup.now.spec }
-    requires lower { HasNoUpper setup.now.spec }
+    requires alone { HasLowsAlone setup.now }
     requires two { setup.now.replicas ≡ 2 }
 {
     let sell = inst(2, 0);
@@ -170,7 +169,7 @@ pub(crate) fn messages(alloc: Global, setup: &Setup) -> Result<(Message, Message
 /// What the one that is made again decides: on opening the other item, and on selling once more.
 pub(crate) fn decisions(alloc: Global, setup: &Setup) -> Result<(Decision, Decision), NoMemory>
     requires well_formed { IsWellFormed setup.now.spec }
-    requires lower { HasNoUpper setup.now.spec }
+    requires alone { HasLowsAlone setup.now }
     requires two { setup.now.replicas ≡ 2 }
 {
     let unlock = inst(0, 1);

@@ -4,7 +4,7 @@ ghost use Rattle.std.specs.Prelude.{◌≡◌, IfOk, IsTrue, None};
 ghost use Rattle.std.specs.List.{AllByRecursion};
 ghost use Rattle.spec_model.specs.declared.spec.Num.{Num as NumOf};
 ghost use Rattle.spec_model.specs.Fits.{IsWellFormed};
-ghost use Rattle.replica_core.specs.Tables.{HasNoUpper};
+ghost use Rattle.replica_core.specs.Tables.{HasLowsAlone};
 
 use ind_base::{Args, List, NoMemory, Span, Spans, Text};
 use line_text::ParseError;
@@ -37,29 +37,6 @@ fn lines_of(alloc: Global, text: &str) -> Result<Vec<Text>, NoMemory> {
     Ok(lines)
 }
 
-/// The shop at two replicas, without reservations.
-pub(crate) fn shop(alloc: Global) -> Result<Setup, ParseError>
-    ensures well_formed { IfOk result (λ setup. IsWellFormed setup.spec) }
-    ensures two { IfOk result (λ setup. setup.replicas ≡ 2) }
-{
-    let Ok(lines) = lines_of(alloc, SHOP) else {
-        return Err(ParseError::Memory);
-    };
-    if lines.len() > 100 {
-        return Err(ParseError::Memory);
-    }
-    let plan = Plan {
-        locks: List::new(alloc),
-        masks: List::new(alloc),
-        parts: List::new(alloc),
-    };
-    Ok(Setup {
-        spec: parse_spec(alloc, lines.as_slice())?,
-        plan,
-        replicas: 2,
-    })
-}
-
 /// Whether no number of these has an upper bound.
 #[tactic(auto, using(crate::proofs::Walked::each_push))]
 fn none_has_most(nums: &[Num]) -> bool
@@ -73,12 +50,33 @@ fn none_has_most(nums: &[Num]) -> bool
     true
 }
 
-/// Whether no cell has an upper bound.
-#[tactic(auto, using(crate::proofs::Walked::no_upper))]
-pub(crate) fn has_no_upper(setup: &Setup) -> bool
-    ensures { IsTrue result → HasNoUpper setup.now.spec }
+/// The shop at two replicas, without reservations.
+#[tactic(auto, using(crate::proofs::Walked::lows_alone))]
+pub(crate) fn shop(alloc: Global) -> Result<Setup, ParseError>
+    ensures well_formed { IfOk result (λ setup. IsWellFormed setup.spec) }
+    ensures alone { IfOk result HasLowsAlone }
+    ensures two { IfOk result (λ setup. setup.replicas ≡ 2) }
 {
-    none_has_most(setup.spec.nums.as_slice())
+    let Ok(lines) = lines_of(alloc, SHOP) else {
+        return Err(ParseError::Memory);
+    };
+    if lines.len() > 100 {
+        return Err(ParseError::Memory);
+    }
+    let plan = Plan {
+        locks: List::new(alloc),
+        masks: List::new(alloc),
+        parts: List::new(alloc),
+    };
+    let spec = parse_spec(alloc, lines.as_slice())?;
+    if !none_has_most(spec.nums.as_slice()) {
+        return Err(ParseError::Memory);
+    }
+    Ok(Setup {
+        spec,
+        plan,
+        replicas: 2,
+    })
 }
 
 fn args(elements: &[u32]) -> Args {

@@ -2,7 +2,6 @@
 
 ghost use Rattle.std.specs.Prelude.{◌≡◌, ◌<◌, ◌≤◌, IfOk, IsTrue, OnOk, length};
 ghost use Rattle.spec_model.specs.Fits.{InstFits, IsWellFormed};
-ghost use Rattle.spec_model.specs.declared.spec.Spec.{Spec as SpecOf};
 ghost use Rattle.causal_store.specs.Stores.{IsShort, IsStore, logs_in};
 
 use crate::shop::{atom, stock};
@@ -13,7 +12,7 @@ use std::alloc::Global;
 
 /// A store of two replicas with no items.
 pub(crate) fn empty(alloc: Global) -> Result<Store, NoMemory>
-    ensures { (spec : SpecOf) → IfOk result (IsStore spec 2) }
+    ensures { IfOk result (IsStore 2) }
 {
     Store::begin(alloc, 2)
 }
@@ -36,11 +35,11 @@ pub(crate) fn put(
     deps: Cut,
     inst: &Inst,
 ) -> Result<(), NoMemory>
-    requires own { IsStore spec.now 2 store.old }
+    requires own { IsStore 2 store.old }
     requires place { origin < 2 }
     requires past { length deps ≡ 2 }
     requires fits { InstFits spec.now inst.now }
-    ensures { OnOk result (IsStore spec.now 2 store.new) }
+    ensures { OnOk result (IsStore 2 store.new) }
 {
     let index = store.log(origin).len();
     if index > 1000 {
@@ -67,15 +66,15 @@ fn is_short(store: &Store) -> bool
 
 /// The same in a store of its own.
 pub(crate) fn copy(alloc: Global, spec: &Spec, store: &Store) -> Result<Store, NoMemory>
-    requires { IsStore spec.now 2 store.now }
-    ensures { IfOk result (IsStore spec.now 2) }
+    requires { IsStore 2 store.now }
+    ensures { IfOk result (IsStore 2) }
 {
     store.copy(alloc)
 }
 
 /// Whether an item is open there.
 pub(crate) fn is_open(spec: &Spec, store: &Store, item: u32) -> bool
-    requires { IsStore spec.now 2 store.now }
+    requires { IsStore 2 store.now }
 {
     store.truth(spec, &atom(0, item))
 }
@@ -83,7 +82,7 @@ pub(crate) fn is_open(spec: &Spec, store: &Store, item: u32) -> bool
 /// How many of an item there are, if that can be told.
 pub(crate) fn stock_of(spec: &Spec, store: &Store, item: u32) -> Option<i64>
     requires well_formed { IsWellFormed spec.now }
-    requires own { IsStore spec.now 2 store.now }
+    requires own { IsStore 2 store.now }
 {
     if spec.nums.is_empty() || !is_short(store) {
         return None;
