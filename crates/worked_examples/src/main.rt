@@ -2,7 +2,9 @@
 //!
 //! An example is a line `%% NAME: STATUS WORDS`, the lines of its input, a line `%=`, and the lines
 //! of its output. Where that line is `%-` the input's last line lacks its end. A line `%* COUNT TEXT`
-//! stands for so many lines of this text, with the number of the line, from 0, for each `@`.
+//! stands for so many lines of this text, with the number of the line, from 0, for each `@`, and a
+//! line `%< FILE` for the lines of a file. By `%r PIECE CALL..` the source gives at most so many bytes
+//! a call, and these calls, from 0, fail; by `%w PIECE CALL..` the sink.
 #![tactic(auto)]
 
 use ind_base::{List, NoMemory, put_num, read_num};
@@ -15,13 +17,45 @@ use std::{fs, io, mem};
 const ROOM: u64 = 1_000_000;
 
 /// The files of examples.
-const FILES: [&str; 5] = [
+const FILES: [&str; 7] = [
+    "certificates.txt",
+    "documents.txt",
     "examples.txt",
     "language.txt",
     "limits.txt",
     "plans.txt",
     "runs.txt",
 ];
+
+/// How an end in memory moves bytes: how many a call takes, and which calls fail.
+#[derive(Drop)]
+struct Pace {
+    piece: u32,
+    fails: List<u32>,
+}
+
+impl Pace {
+    /// The most bytes at once, and no call that fails.
+    fn whole(alloc: Global) -> Pace {
+        Pace {
+            piece: 4096,
+            fails: List::new(alloc),
+        }
+    }
+
+    /// The numbers of a line: the piece, and the calls that fail.
+    fn said(alloc: Global, numbers: &[u8]) -> Result<Pace, NoMemory> {
+        let mut numbers = numbers
+            .split(|b| *b == b' ')
+            .map(|digits| read_num(digits).unwrap_or(0).min(4096) as u32);
+        let mut pace = Pace::whole(alloc);
+        pace.piece = numbers.next().unwrap_or(0);
+        for call in numbers {
+            pace.fails.push(call)?;
+        }
+        Ok(pace)
+    }
+}
 
 /// An example: what is asked, and what has to be answered.
 #[derive(Drop)]
@@ -30,6 +64,8 @@ struct Example {
     input: List<u8>,
     output: List<u8>,
     in_output: bool,
+    source: Pace,
+    sink: Pace,
 }
 
 impl Example {
@@ -39,10 +75,12 @@ impl Example {
             input: List::new(alloc),
             output: List::new(alloc),
             in_output: false,
+            source: Pace::whole(alloc),
+            sink: Pace::whole(alloc),
         }
     }
 
-    /// Takes a line that isn't a title.
+    /// Takes a line as it is.
     fn take(&mut self, line: &[u8]) -> Result<(), NoMemory> {
         if line == b"%=".as_slice() {
             self.in_output = true;
@@ -59,10 +97,9 @@ impl Example {
         Ok(())
     }
 
-    /// Takes the lines that a line of repetition stands for.
-    fn take_repeated(&mut self, alloc: Global, line: &[u8]) -> Result<(), NoMemory> {
-        let mut parts = line.splitn(3, |b| *b == b' ');
-        let _mark = parts.next();
+    /// Takes the lines that a line of repetition stands for: how many, and their text.
+    fn take_repeated(&mut self, alloc: Global, said: &[u8]) -> Result<(), NoMemory> {
+        let mut parts = said.splitn(2, |b| *b == b' ');
         let count = parts
             .next()
             .and_then(|digits| read_num(digits))
@@ -75,6 +112,27 @@ impl Example {
         Ok(())
     }
 
+    /// Takes a line that isn't a title. A file that isn't there has no lines.
+    fn take_line(&mut self, rt: &HostRuntime, line: &[u8]) -> Result<(), NoMemory> {
+        let alloc = rt.alloc();
+        let mut parts = line.splitn(2, |b| *b == b' ');
+        let mark = parts.next().unwrap_or(b"".as_slice());
+        let said = parts.next().unwrap_or(b"".as_slice());
+        match mark {
+            b"%*" => self.take_repeated(alloc, said)?,
+            b"%<" => {
+                let name = String::from_utf8_lossy(alloc, said)?;
+                if let Ok(text) = fs::read(rt, name.as_str()) {
+                    self.input.extend(text.as_slice())?
+                }
+            }
+            b"%r" => self.source = Pace::said(alloc, said)?,
+            b"%w" => self.sink = Pace::said(alloc, said)?,
+            _ => self.take(line)?,
+        }
+        Ok(())
+    }
+
     /// Whether the program answers as the example says.
     fn is_answered(self, alloc: Global) -> Result<bool, NoMemory> {
         let Example {
@@ -82,6 +140,8 @@ impl Example {
             input,
             output,
             in_output: _,
+            source,
+            sink,
         } = self;
         let mut parts = command(title.as_slice()).split(|b| *b == b' ');
         let status = match parts.next() {
@@ -92,8 +152,8 @@ impl Example {
         for part in parts {
             words.push(String::from_utf8_lossy(alloc, part)?)?;
         }
-        let mut source = MemSource::new(input, 4096, List::new(alloc));
-        let mut sink = MemSink::new(alloc, ROOM, 4096, List::new(alloc))?;
+        let mut source = MemSource::new(input, source.piece.max(1), source.fails);
+        let mut sink = MemSink::new(alloc, ROOM, sink.piece.max(1), sink.fails)?;
         let got = tool(alloc, words.as_slice(), &mut source, &mut sink);
         Ok(got == status && sink.bytes() == output.as_slice())
     }
@@ -145,7 +205,8 @@ impl Tally {
 }
 
 /// Runs all examples of a text; behind the last one stands a line that begins with `%%`.
-fn run(alloc: Global, text: &[u8]) -> Result<Tally, NoMemory> {
+fn run(rt: &HostRuntime, text: &[u8]) -> Result<Tally, NoMemory> {
+    let alloc = rt.alloc();
     let mut tally = Tally {
         passed: 0,
         failed: List::new(alloc),
@@ -161,10 +222,8 @@ fn run(alloc: Global, text: &[u8]) -> Result<Tally, NoMemory> {
                 tally.judge(alloc, done)?;
             }
             begun = true;
-        } else if line.starts_with(b"%* ".as_slice()) {
-            example.take_repeated(alloc, line)?;
         } else {
-            example.take(line)?;
+            example.take_line(rt, line)?;
         }
     }
     Ok(tally)
@@ -174,7 +233,7 @@ fn main(rt: HostRuntime) -> io::Result<()> {
     let alloc = rt.alloc();
     for name in FILES {
         let text = fs::read(&rt, name)?;
-        match run(alloc, text.as_slice()) {
+        match run(&rt, text.as_slice()) {
             Ok(tally) => {
                 let failed = String::from_utf8_lossy(alloc, tally.failed.as_slice())?;
                 let passed = tally.passed;

@@ -1,5 +1,0 @@
-//! Tests of the program over ends in memory.
-#![tactic(auto)]
-
-#[cfg(test)]
-mod tests;
