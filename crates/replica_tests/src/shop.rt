@@ -1,6 +1,6 @@
 //! A shop of two items. One of them may be open, and only then be listed.
 
-ghost use Rattle.std.specs.Prelude.{◌≡◌, IfOk, IsTrue, None};
+ghost use Rattle.std.specs.Prelude.{◌≡◌, IfOk, IfSome, IsTrue, None};
 ghost use Rattle.std.specs.List.{AllByRecursion};
 ghost use Rattle.spec_model.specs.declared.spec.Num.{Num as NumOf};
 ghost use Rattle.spec_model.specs.Fits.{IsWellFormed};
@@ -9,7 +9,7 @@ ghost use Rattle.replica_core.specs.Tables.{HasLowsAlone};
 use ind_base::{Args, List, NoMemory, Span, Spans, Text};
 use line_text::ParseError;
 use spec_language::parse_spec;
-use spec_model::{Atom, Broken, Cell, Inst, Num, Plan, Setup};
+use spec_model::{Atom, Broken, Cell, Inst, Num, Plan, Setup, Spec};
 use std::alloc::Global;
 
 const SHOP: &str = "sort item 2
@@ -50,8 +50,30 @@ fn none_has_most(nums: &[Num]) -> bool
     true
 }
 
-/// The shop at two replicas, without reservations.
+/// Two replicas of a specification without reservations, if no number has an upper bound.
 #[tactic(auto, using(crate::proofs::Walked::lows_alone))]
+fn bare(alloc: Global, spec: Spec) -> Option<Setup>
+    requires well_formed { IsWellFormed spec }
+    ensures well_formed { IfSome result (λ setup. IsWellFormed setup.spec) }
+    ensures alone { IfSome result HasLowsAlone }
+    ensures two { IfSome result (λ setup. setup.replicas ≡ 2) }
+{
+    if !none_has_most(spec.nums.as_slice()) {
+        return None;
+    }
+    let plan = Plan {
+        locks: List::new(alloc),
+        masks: List::new(alloc),
+        parts: List::new(alloc),
+    };
+    Some(Setup {
+        spec,
+        plan,
+        replicas: 2,
+    })
+}
+
+/// The shop at two replicas.
 pub(crate) fn shop(alloc: Global) -> Result<Setup, ParseError>
     ensures well_formed { IfOk result (λ setup. IsWellFormed setup.spec) }
     ensures alone { IfOk result HasLowsAlone }
@@ -63,20 +85,11 @@ pub(crate) fn shop(alloc: Global) -> Result<Setup, ParseError>
     if lines.len() > 100 {
         return Err(ParseError::Memory);
     }
-    let plan = Plan {
-        locks: List::new(alloc),
-        masks: List::new(alloc),
-        parts: List::new(alloc),
-    };
     let spec = parse_spec(alloc, lines.as_slice())?;
-    if !none_has_most(spec.nums.as_slice()) {
-        return Err(ParseError::Memory);
+    match bare(alloc, spec) {
+        Some(setup) => Ok(setup),
+        None => Err(ParseError::Memory),
     }
-    Ok(Setup {
-        spec,
-        plan,
-        replicas: 2,
-    })
 }
 
 fn args(elements: &[u32]) -> Args {

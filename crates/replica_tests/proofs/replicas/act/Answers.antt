@@ -16,7 +16,7 @@ returns-clause-acted c =
     let new = c.commit_act.new.self in
     let same = c.ready.ensures.same in
     let decides : Decides setup inst (view_of old) (decision.Act c.in-Act.batch) = subst (Decides setup inst (view_of old)) c.in-Act.is c.in_ok-batch.ensures in
-    let again : Decides setup inst (view_of c.ready.new.replica) (decision.Act c.in-Act.batch) = subst (λ (v : View). Decides setup inst v (decision.Act c.in-Act.batch)) (sym same.view) decides in
+    let again : Decides setup inst (view_of c.ready.new.self) (decision.Act c.in-Act.batch) = subst (λ (v : View). Decides setup inst v (decision.Act c.in-Act.batch)) (sym same.view) decides in
     let answered = same.answered inst _ new (c.commit_act.ensures.answered inst again) in
     let knows = c.commit_act.ensures.known ∙ ap (λ (v : View). with_all c.in-Act.batch.items v.known) same.view in
     subst (λ batches. HasActed setup batches new) (sym c.in_ok-push.ensures.ok)
