@@ -5,3 +5,5 @@ pub mod Giving
 pub mod Telling
 pub mod Stepped
 pub mod Pieces
+pub mod Lacking
+pub mod Acts
