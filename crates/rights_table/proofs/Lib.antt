@@ -7,3 +7,4 @@ pub mod Stepped
 pub mod Pieces
 pub mod Lacking
 pub mod Acts
+pub mod Levels

@@ -11,7 +11,7 @@ use Rattle.spec_model.specs.declared.right.Amount.{Amount}
 use Rattle.spec_model.specs.declared.right.Amount.TheVariants as amount
 use Rattle.run_model.specs.Rights.{same_right, is_shared}
 use Rattle.run_model.specs.Levels.{acts_at, acts_on, is_permitted}
-use Rattle.run_model.specs.Holding.{shares_of}
+use Rattle.run_model.specs.Holding.{shares_of, mode_set as modes_set}
 use Rattle.multilevel_locks.specs.Shares.{mode_set}
 use Rattle.rights_table.specs.declared.table.Table.{Table}
 use Rattle.rights_table.specs.Tables.{count_in, mode_in, IsEntered}
@@ -44,3 +44,11 @@ IsOnShares r a = Unit {0}
 
 abbrev pub AreOnShares : List Need → Type 0
 AreOnShares needs = AllByRecursion (λ need. IsOnShares need.right need.amount) needs
+
+-- the modes once an act with these needs was done, and all else as before
+pub record SetsModes (setup : Setup) (needs : List Need) (old new : Table) : Type 0 where
+  pub me : new.me ≡ old.me
+  pub replicas : new.replicas ≡ old.replicas
+  pub counts : (q : Right) → count_in setup new q ≡ count_in setup old q
+  pub modes : (q : Right) → mode_in new q ≡ (if count_in setup old q == setup.replicas then modes_set (acts_at setup.replicas (shares_in setup old) needs q) (mode_in old q) else mode_in old q)
+  pub kept : (q : Right) → IsEntered old q → IsEntered new q

@@ -8,8 +8,8 @@ use Rattle.rights_table.specs.Acting.{shares_in}
 use Rattle.rights_table.proofs.Acts.{other_level}
 use Rattle.rights_table.proofs.table.Table.acted_on.Goals as goal
 
-pub returns-else-same_level-2 : goal.returns-else-same_level-2
-returns-else-same_level-2 c = λ q.
+pub returns-else-same_level-2-clause-it : goal.returns-else-same_level-2-clause-it
+returns-else-same_level-2-clause-it c = λ q.
     let P = is_permitted c.args.setup.now.replicas (shares_in c.args.setup.now c.args.self.now) in
     let r = c.args.need.now.right in
     subst (λ (a : Amount). false ≡ option_map_or (is_at q c.args.level) (find P (choices_of r a)) false) (sym c.in-AnyForbid.is)
