@@ -8,3 +8,4 @@ pub mod Pieces
 pub mod Lacking
 pub mod Acts
 pub mod Levels
+pub mod Moves

@@ -6,3 +6,5 @@ pub mod Passing
 pub mod Tables
 pub mod Lacks
 pub mod Acting
+pub mod Cells
+pub mod Bounded

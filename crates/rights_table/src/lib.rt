@@ -6,6 +6,7 @@ mod entry;
 mod first;
 mod holding;
 mod laws;
+mod moving;
 mod passing;
 mod step;
 mod table;

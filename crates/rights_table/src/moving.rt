@@ -1,0 +1,69 @@
+//! What an act creates and spends of the rights of cells.
+
+ghost use Rattle.std.specs.Prelude.{◌≡◌, ◌+◌, ◌<◌, ◌≤◌, ◌^◌, true, is_some, sum_by, slice_get, None};
+ghost use Rattle.std.specs.Option.{option_map_or};
+ghost use Rattle.spec_model.specs.Changes as changes;
+ghost use Rattle.spec_model.specs.Needs as needs;
+ghost use Rattle.spec_model.specs.declared.right.Right.{Right as RightOf};
+ghost use Rattle.run_model.specs.Rights as rights;
+ghost use Rattle.rights_table.specs.Bounded as bounded;
+
+use crate::step::Step;
+use crate::table::Table;
+use effect_model::cell_named;
+use spec_model::{Inst, Line, Right, Setup, Spec, WantAsk};
+
+/// Whether a number has a lower bound.
+fn has_lower(spec: &Spec, num: u32) -> bool
+    ensures { result ≡ bounded.has_lower spec.now num }
+{
+    match spec.nums.get(num as usize) {
+        Some(num) => num.min.is_some(),
+        None => false,
+    }
+}
+
+/// Whether it has an upper bound.
+fn has_upper(spec: &Spec, num: u32) -> bool
+    ensures { result ≡ bounded.has_upper spec.now num }
+{
+    match spec.nums.get(num as usize) {
+        Some(num) => num.max.is_some(),
+        None => false,
+    }
+}
+
+/// The effect lines of an instance's operation.
+fn lines_of<'a>(spec: &'a Spec, inst: &Inst) -> &'a [Line]
+    ensures { result.now ≡ changes.effect_lines spec.now inst.now }
+{
+    match spec.ops.get(inst.op as usize) {
+        Some(op) => op.lines.as_slice(),
+        None => &[],
+    }
+}
+
+impl Table {
+    ghost use Rattle.rights_table.specs.Tables.{IsEntered, count_in};
+    ghost use Rattle.rights_table.specs.Cells.{MovesBy, all_gain, all_lose, line_gains, line_loses, of_right};
+
+    /// Adds so many of an escrow right.
+    fn gain(&mut self, setup: &Setup, right: &Right, n: u64)
+        requires escrow { rights.is_escrow right.now ≡ true }
+        requires entered { IsEntered self.old right.now }
+        requires small { count_in setup.now self.old right.now + n < 2 ^ 64 }
+        ensures { MovesBy setup.now (of_right right.now n) (λ q. 0) self.old self.new }
+    {
+        self.change(right, &Step::Create(n));
+    }
+
+    /// Takes so many of an escrow right away.
+    fn lose(&mut self, setup: &Setup, right: &Right, n: u64)
+        requires escrow { rights.is_escrow right.now ≡ true }
+        requires entered { IsEntered self.old right.now }
+        requires held { n ≤ count_in setup.now self.old right.now }
+        ensures { MovesBy setup.now (λ q. 0) (of_right right.now n) self.old self.new }
+    {
+        self.change(right, &Step::Spend(WantAsk::Count(n)));
+    }
+}
