@@ -9,3 +9,4 @@ pub mod Lacking
 pub mod Acts
 pub mod Levels
 pub mod Moves
+pub mod Lines

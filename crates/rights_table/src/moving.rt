@@ -45,7 +45,7 @@ fn lines_of<'a>(spec: &'a Spec, inst: &Inst) -> &'a [Line]
 
 impl Table {
     ghost use Rattle.rights_table.specs.Tables.{IsEntered, count_in};
-    ghost use Rattle.rights_table.specs.Cells.{MovesBy, all_gain, all_lose, line_gains, line_loses, of_right};
+    ghost use Rattle.rights_table.specs.Cells.{AreCellsEntered, MovesBy, all_gain, all_lose, line_gains, line_loses, line_moves, of_right};
 
     /// Adds so many of an escrow right.
     fn gain(&mut self, setup: &Setup, right: &Right, n: u64)
@@ -65,5 +65,63 @@ impl Table {
         ensures { MovesBy setup.now (λ q. 0) (of_right right.now n) self.old self.new }
     {
         self.change(right, &Step::Spend(WantAsk::Count(n)));
+    }
+
+    /// Adds what a line creates.
+    fn gain_line(&mut self, setup: &Setup, inst: &Inst, line: &Line)
+        requires entered { (q : RightOf) → line_moves setup.now.spec inst.now q line.now ≡ true → IsEntered self.old q }
+        requires small { (q : RightOf) → count_in setup.now self.old q + line_gains setup.now.spec inst.now q line.now < 2 ^ 64 }
+        ensures { MovesBy setup.now (λ q. line_gains setup.now.spec inst.now q line.now) (λ q. 0) self.old self.new }
+    {
+        match line {
+            Line::Add {
+                num,
+                params,
+                amount,
+            } => {
+                if has_lower(&setup.spec, *num) {
+                    self.gain(setup, &Right::Low(cell_named(inst, *num, params)), *amount);
+                }
+            }
+            Line::Sub {
+                num,
+                params,
+                amount,
+            } => {
+                if has_upper(&setup.spec, *num) {
+                    self.gain(setup, &Right::High(cell_named(inst, *num, params)), *amount);
+                }
+            }
+            _ => {}
+        }
+    }
+
+    /// Takes away what a line spends.
+    fn lose_line(&mut self, setup: &Setup, inst: &Inst, line: &Line)
+        requires entered { (q : RightOf) → line_moves setup.now.spec inst.now q line.now ≡ true → IsEntered self.old q }
+        requires held { (q : RightOf) → line_loses setup.now.spec inst.now q line.now ≤ count_in setup.now self.old q }
+        ensures { MovesBy setup.now (λ q. 0) (λ q. line_loses setup.now.spec inst.now q line.now) self.old self.new }
+    {
+        match line {
+            Line::Add {
+                num,
+                params,
+                amount,
+            } => {
+                if has_upper(&setup.spec, *num) {
+                    self.lose(setup, &Right::High(cell_named(inst, *num, params)), *amount);
+                }
+            }
+            Line::Sub {
+                num,
+                params,
+                amount,
+            } => {
+                if has_lower(&setup.spec, *num) {
+                    self.lose(setup, &Right::Low(cell_named(inst, *num, params)), *amount);
+                }
+            }
+            _ => {}
+        }
     }
 }
