@@ -10,3 +10,4 @@ pub mod Acts
 pub mod Levels
 pub mod Moves
 pub mod Lines
+pub mod Sums

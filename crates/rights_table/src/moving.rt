@@ -124,4 +124,39 @@ impl Table {
             _ => {}
         }
     }
+
+    /// Adds what lines create.
+    fn gain_lines(&mut self, setup: &Setup, inst: &Inst, lines: &[Line])
+        requires entered { AreCellsEntered setup.now.spec inst.now lines.now self.old }
+        requires small { (q : RightOf) → count_in setup.now self.old q + sum_by (line_gains setup.now.spec inst.now q) lines.now < 2 ^ 64 }
+        ensures { MovesBy setup.now (λ q. sum_by (line_gains setup.now.spec inst.now q) lines.now) (λ q. 0) self.old self.new }
+    {
+        for line in lines {
+            self.gain_line(setup, inst, line);
+        }
+    }
+
+    /// Takes away what lines spend.
+    fn lose_lines(&mut self, setup: &Setup, inst: &Inst, lines: &[Line])
+        requires entered { AreCellsEntered setup.now.spec inst.now lines.now self.old }
+        requires held { (q : RightOf) → sum_by (line_loses setup.now.spec inst.now q) lines.now ≤ count_in setup.now self.old q }
+        ensures { MovesBy setup.now (λ q. 0) (λ q. sum_by (line_loses setup.now.spec inst.now q) lines.now) self.old self.new }
+    {
+        for line in lines {
+            self.lose_line(setup, inst, line);
+        }
+    }
+
+    /// Creates and spends what an act does to cells. What it spends is held.
+    pub(crate) fn move_cells(&mut self, setup: &Setup, inst: &Inst)
+        requires entered { AreCellsEntered setup.now.spec inst.now (changes.effect_lines setup.now.spec inst.now) self.old }
+        requires small { (q : RightOf) → count_in setup.now self.old q + all_gain setup.now.spec inst.now q < 2 ^ 64 }
+        requires held { (q : RightOf) → needs.spends setup.now.spec inst.now q ≤ count_in setup.now self.old q }
+        ensures { MovesBy setup.now (needs.creates setup.now.spec inst.now) (needs.spends setup.now.spec inst.now) self.old self.new }
+    {
+        let lines = lines_of(&setup.spec, inst);
+        // What is created first is there when the rest is spent.
+        self.gain_lines(setup, inst, lines);
+        self.lose_lines(setup, inst, lines);
+    }
 }
