@@ -6,8 +6,9 @@ pub mod Telling
 pub mod Stepped
 pub mod Pieces
 pub mod Lacking
-pub mod Acts
+pub mod ActedOn
 pub mod Levels
 pub mod Moves
 pub mod Lines
 pub mod Sums
+pub mod Logged

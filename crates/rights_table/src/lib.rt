@@ -2,6 +2,7 @@
 #![tactic(auto)]
 
 mod acting;
+mod acts;
 mod entry;
 mod first;
 mod holding;

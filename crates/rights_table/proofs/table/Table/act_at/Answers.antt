@@ -5,7 +5,7 @@ use Rattle.rights_table.specs.Holdings.{spent}
 use Rattle.rights_table.specs.Tables.{Becomes, entered}
 use Rattle.std.specs.Prelude.{Some}
 use Rattle.rights_table.proofs.Entries.{kind_entered}
-use Rattle.rights_table.proofs.Acts.{IsSharesOf, shares_of_kind, shares_permit, acts_one}
+use Rattle.rights_table.proofs.ActedOn.{IsSharesOf, shares_of_kind, shares_permit, acts_one}
 use Rattle.rights_table.proofs.table.Table.act_at.Goals as goal
 
 pub change-requires-clause-may : goal.change-requires-clause-may

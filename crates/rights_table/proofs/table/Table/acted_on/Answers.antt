@@ -5,7 +5,7 @@ use Rattle.std.proofs.Common.{map}
 use Rattle.spec_model.specs.declared.right.Amount.{Amount}
 use Rattle.run_model.specs.Levels.{is_permitted, choices_of, is_at}
 use Rattle.rights_table.specs.Acting.{shares_in}
-use Rattle.rights_table.proofs.Acts.{other_level}
+use Rattle.rights_table.proofs.ActedOn.{other_level}
 use Rattle.rights_table.proofs.table.Table.acted_on.Goals as goal
 
 pub returns-else-same_level-2-clause-it : goal.returns-else-same_level-2-clause-it

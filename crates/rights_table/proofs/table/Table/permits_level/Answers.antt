@@ -1,5 +1,5 @@
 use Rattle.std.proofs.Common.{◌∙◌}
-use Rattle.rights_table.proofs.Acts.{level_permitted, shared_whole}
+use Rattle.rights_table.proofs.ActedOn.{level_permitted, shared_whole}
 use Rattle.rights_table.proofs.table.Table.permits_level.Goals as goal
 
 pub is_permitted-requires-clause-whole : goal.is_permitted-requires-clause-whole
