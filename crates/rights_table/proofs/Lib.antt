@@ -5,3 +5,10 @@ pub mod Giving
 pub mod Telling
 pub mod Stepped
 pub mod Pieces
+pub mod Lacking
+pub mod ActedOn
+pub mod Levels
+pub mod Moves
+pub mod Lines
+pub mod Sums
+pub mod Logged

@@ -4,3 +4,7 @@ pub mod Entries
 pub mod Parts
 pub mod Passing
 pub mod Tables
+pub mod Lacks
+pub mod Acting
+pub mod Cells
+pub mod Bounded

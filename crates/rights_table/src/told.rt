@@ -2,9 +2,11 @@
 
 ghost use Rattle.std.specs.Prelude.{◌≡◌, ◌<◌, false, map, IfSome, IfNone, None, Some};
 ghost use Rattle.std.specs.List.{AllByRecursion, list_any};
+ghost use Rattle.std.specs.Option.{option_copied, option_map};
 ghost use Rattle.spec_model.specs.Fits.{IsWellFormed};
 ghost use Rattle.run_model.specs.Levels as levels;
 ghost use Rattle.rights_table.specs.Parts.{is_part, SpeaksOfNone};
+ghost use Rattle.rights_table.specs.Lacks.{lacking_of};
 
 use crate::first::first_holding;
 use crate::table::Table;
@@ -26,7 +28,7 @@ fn permits(all: u32, held: &Held, amount: &Amount) -> bool
 }
 
 /// The entry of another literal of the right's instance.
-fn at_literal(right: &Right, literal: u32) -> Right
+pub(crate) fn at_literal(right: &Right, literal: u32) -> Right
     ensures { result ≡ levels.at_literal right.now literal }
 {
     match right {
@@ -63,7 +65,7 @@ impl Table {
     }
 
     /// Whether a right permits an amount.
-    fn is_permitted(&self, setup: &Setup, right: &Right, amount: &Amount) -> bool
+    pub(crate) fn is_permitted(&self, setup: &Setup, right: &Right, amount: &Amount) -> bool
         requires well_formed { IsWellFormed setup.now.spec }
         requires some { 0 < setup.now.replicas }
         requires replicas { replicas_of self.now ≡ setup.now.replicas }
@@ -102,5 +104,32 @@ impl Table {
             Amount::AnyForbid(literals) => self.meets_any(setup, &need.right, literals.as_slice()),
             _ => self.is_permitted(setup, &need.right, &need.amount),
         }
+    }
+
+    /// What is held of a need's right; of a witness, of the entry of its first literal.
+    pub fn held(&self, setup: &Setup, need: &Need) -> Held
+        requires well_formed { IsWellFormed setup.now.spec }
+        requires some { 0 < setup.now.replicas }
+        requires replicas { replicas_of self.now ≡ setup.now.replicas }
+        requires whole { is_part need.now.right ≡ false }
+        ensures { result ≡ holding_in setup.now self.now need.now }
+    {
+        self.held_of(setup, &need.right)
+    }
+
+    /// The first need that isn't met; `None` where all are.
+    pub fn first_lacking<'a>(&self, setup: &Setup, needs: &'a [Need]) -> Option<&'a Need>
+        requires well_formed { IsWellFormed setup.now.spec }
+        requires some { 0 < setup.now.replicas }
+        requires replicas { replicas_of self.now ≡ setup.now.replicas }
+        requires whole { AllByRecursion SpeaksOfNone needs.now }
+        ensures { option_map (lacking_of (holding_in setup.now self.now)) (option_copied result) ≡ levels.first_lacking setup.now.replicas (holding_in setup.now self.now) needs.now }
+    {
+        for need in needs {
+            if !self.is_met(setup, need) {
+                return Some(need);
+            }
+        }
+        None
     }
 }
