@@ -55,9 +55,10 @@ by_bound b up down lines =
     let u = sum_tested b up lines in
     let d = sum_tested b down lines in
     let s = where_some b (sum_by down lines) (sum_by up lines) in
-    let c = where_some b (sum_by up lines) (sum_by down lines) in
-    (s ∙ ap (λ n. n - cond b (sum_by up lines) 0) (sym d) ∙ ap (λ n. sum_by (λ l. cond b (down l) 0) lines - n) (sym u),
-        c ∙ ap (λ n. n - cond b (sum_by down lines) 0) (sym u) ∙ ap (λ n. sum_by (λ l. cond b (up l) 0) lines - n) (sym d))
+    let c = where_some b (sum_by up lines) (sum_by down lines) in (
+      s ∙ ap (λ n. n - cond b (sum_by up lines) 0) (sym d) ∙ ap (λ n. sum_by (λ l. cond b (down l) 0) lines - n) (sym u),
+      c ∙ ap (λ n. n - cond b (sum_by down lines) 0) (sym u) ∙ ap (λ n. sum_by (λ l. cond b (up l) 0) lines - n) (sym d),
+    )
 
 pub nets : (spec : Spec) (inst : Inst) (r : Right) → Nets spec inst r
 nets spec inst (right.Low cell) =
