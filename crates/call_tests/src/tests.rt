@@ -1,23 +1,9 @@
-//! Specifications, effects and pairs of operations.
+//! Effects and pairs of operations, of specifications that are read.
 
-use crate::documents::{CLUB, CUP, HALL, LATER, WIDE, spec_of};
+use crate::documents::{CLUB, CUP, LATER, WIDE};
 use crate::effects::{booking, breaks_at, does};
 use crate::pairs::{found_of, kind_of};
-use ind_base::List;
-use spec_language::print_spec;
 use std::test::Fail;
-
-#[test]
-fn a_specification_is_printed_as_it_is_read(rt: HostRuntime) -> Result<(), Fail> {
-    let text = print_spec(rt.alloc(), &spec_of(rt.alloc(), &HALL)?)?;
-    let mut lines = List::new(rt.alloc());
-    for line in HALL {
-        lines.extend(line.as_bytes())?;
-        lines.push(b'\n')?;
-    }
-    assert!(rt; text.as_slice() == lines.as_slice());
-    Ok(())
-}
 
 #[test]
 fn a_booking_changes_its_slots(rt: HostRuntime) -> Result<(), Fail> {

@@ -4,7 +4,7 @@ use Rattle.std.specs.Prelude.{codes}
 use Rattle.std.specs.List.{AllByRecursion, flat_map}
 use Rattle.certificate_check.specs.Printed.{cases_text, form_text, kind_text, kinds_text, number}
 use Rattle.certificate_check.specs.declared.certificate.CertLine.{CertLine}
-use Rattle.ground_clauses.proofs.Lists.{each_weaker}
+use Rattle.ground_clauses.proofs.Lists.{each_append, each_weaker}
 use Rattle.ground_clauses.proofs.Reaches.{at_place}
 use Rattle.spec_model.specs.Fits.{LockFits, PartFits}
 use Rattle.spec_model.specs.declared.plan.LockKind.{LockKind}
@@ -32,3 +32,6 @@ lock_at spec (k ∷ kinds) (suc i) d h lt = lock_at spec kinds i d h.1 (omega ar
 
 pub parts_fit : (spec : Spec) (parts : List LockKind) → AllByRecursion (PartFits spec) parts → AllByRecursion (LockFits spec) parts
 parts_fit spec parts h = each_weaker (PartFits spec) (LockFits spec) parts (λ l fit. fit.lock) h
+
+pub each_push : {X : Type 0} (P : X → Type 0) (xs : List X) (x : X) → AllByRecursion P xs → P x → AllByRecursion P (xs ++ x ∷ [])
+each_push P xs x h k = each_append P xs (x ∷ []) h (k, tt)

@@ -155,7 +155,7 @@ lines_taken spec plan c formed names fits limits =
     ap (read_from spec 1 fresh) (lines_said spec plan c formed names fits limits)
     ∙ lines_read spec 1 fresh (at_end plan.locks plan.parts c.lines) said (all_spelt spec plan c formed names fits limits) (all_taken spec plan.locks plan.parts c.lines names fits.locks_fit fits.parts_fit fits.once) refl
 
-text_again : (spec : Spec) (plan : Plan) (c : Certificate) → PlanFits spec plan → IsReadAgain spec plan c (certificate_text spec plan c)
+pub text_again : (spec : Spec) (plan : Plan) (c : Certificate) → PlanFits spec plan → IsReadAgain spec plan c (certificate_text spec plan c)
 text_again spec plan c fits formed names limits = ends_same spec (lines_of (certificate_text spec plan c)) plan c fits (lines_taken spec plan c formed names fits limits)
 
 -- what is printed is read again

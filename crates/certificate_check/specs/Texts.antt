@@ -1,7 +1,7 @@
 -- What a text of a plan and a certificate is to what is read from it.
 use Rattle.std.specs.Prelude.{◌≡◌, ◌<◌, ◌≤◌, ℕ, suc, true, List, [], ◌∷◌, ◌++◌, length}
 use Rattle.std.specs.List.{AllByRecursion, flat_map}
-use Rattle.certificate_check.specs.Checks.{AreShort}
+use Rattle.certificate_check.specs.Checks.{AreShort, FewSteps}
 use Rattle.certificate_check.specs.Fitting.{op_named}
 use Rattle.certificate_check.specs.Printed.{certificate_text, word_line}
 use Rattle.certificate_check.specs.Reading.{read_of}
@@ -42,6 +42,10 @@ abbrev pub LineKeepsLimits : CertLine → Type 0
 LineKeepsLimits (SepLock i) = IsSmall i
 LineKeepsLimits (SepPart i) = IsSmall i
 LineKeepsLimits (Refuted d) = IsSmall (length d.steps) × AllByRecursion StepSpelt d.steps
+
+-- so does a line whose steps a number of 32 bits counts
+abbrev pub KeepsIfFew : CertLine → Type 0
+KeepsIfFew line = FewSteps line → LineKeepsLimits line
 
 -- each number that stands in the text is at most 4294967295; locks, partitions and cases are numbered from 0
 pub record KeepsLimits (plan : Plan) (certificate : Certificate) : Type 0 where

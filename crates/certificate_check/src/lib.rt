@@ -14,7 +14,7 @@ mod verdict;
 
 pub use certificate::{CertLine, Certificate};
 pub use judge::check;
-pub use laws::{checked_is_stable, yes_checks};
+pub use laws::{checked_is_stable, text_is_read_again, yes_checks};
 pub use print::print_certificate;
 pub use reading::{Read, parse_certificate};
 pub use separation::{lock_fits, pair_meets, shares};

@@ -3,8 +3,9 @@
 ghost use Rattle.std.specs.Prelude.{◌≡◌, ◌<◌, ◌≤◌, ◌+◌, ◌++◌, length, drop, map, OnOk, IfOk};
 ghost use Rattle.std.specs.List.{flat_map, AllByRecursion};
 ghost use Rattle.spec_model.specs.Fits.{LockFits, PartFits, PlanFits};
+ghost use Rattle.certificate_lines.specs.Texts.{IsSmall, StepSpelt};
 ghost use Rattle.certificate_check.specs.Printed as printed;
-ghost use Rattle.certificate_check.specs.Texts.{IsReadAgain};
+ghost use Rattle.certificate_check.specs.Texts.{IsReadAgain, KeepsIfFew};
 
 use crate::certificate::{CertLine, Certificate};
 use ground_clauses::{Lit, Step};
@@ -65,7 +66,8 @@ fn put_kind(out: &mut List<u8>, spec: &Spec, kind: &LockKind, place: usize) -> R
 
 /// Appends a literal: its sign and its variable.
 fn put_lit(out: &mut List<u8>, lit: &Lit) -> Result<(), NoMemory>
-    ensures { OnOk result (out.new ≡ out.old ++ printed.lit_text lit.now) }
+    ensures text { OnOk result (out.new ≡ out.old ++ printed.lit_text lit.now) }
+    ensures small { OnOk result (IsSmall lit.now.var) }
 {
     if lit.yes {
         out.extend(b" +")?;
@@ -76,9 +78,10 @@ fn put_lit(out: &mut List<u8>, lit: &Lit) -> Result<(), NoMemory>
 }
 
 /// Appends literals, each behind a blank.
-#[tactic(auto, using(crate::proofs::Pieces::flat_next))]
+#[tactic(auto, using(crate::proofs::Pieces::flat_next, crate::proofs::Pieces::each_push))]
 fn put_lits(out: &mut List<u8>, lits: &[Lit]) -> Result<(), NoMemory>
-    ensures { OnOk result (out.new ≡ out.old ++ flat_map printed.lit_text lits.now) }
+    ensures text { OnOk result (out.new ≡ out.old ++ flat_map printed.lit_text lits.now) }
+    ensures small { OnOk result (AllByRecursion (λ x. IsSmall x.var) lits.now) }
 {
     for lit in lits {
         put_lit(out, lit)?;
@@ -87,9 +90,10 @@ fn put_lits(out: &mut List<u8>, lits: &[Lit]) -> Result<(), NoMemory>
 }
 
 /// Appends hints, each behind a blank.
-#[tactic(auto, using(crate::proofs::Pieces::flat_next))]
+#[tactic(auto, using(crate::proofs::Pieces::flat_next, crate::proofs::Pieces::each_push))]
 fn put_hints(out: &mut List<u8>, hints: &[u32]) -> Result<(), NoMemory>
-    ensures { OnOk result (out.new ≡ out.old ++ flat_map printed.hint_text hints.now) }
+    ensures text { OnOk result (out.new ≡ out.old ++ flat_map printed.hint_text hints.now) }
+    ensures small { OnOk result (AllByRecursion IsSmall hints.now) }
 {
     for hint in hints {
         out.extend(b" ")?;
@@ -100,7 +104,8 @@ fn put_hints(out: &mut List<u8>, hints: &[u32]) -> Result<(), NoMemory>
 
 /// Appends the line of a step.
 fn put_step(out: &mut List<u8>, step: &Step) -> Result<(), NoMemory>
-    ensures { OnOk result (out.new ≡ out.old ++ printed.step_text step.now) }
+    ensures text { OnOk result (out.new ≡ out.old ++ printed.step_text step.now) }
+    ensures spelt { OnOk result (StepSpelt step.now) }
 {
     out.extend(b"step")?;
     put_lits(out, step.lits.as_slice())?;
@@ -110,9 +115,10 @@ fn put_step(out: &mut List<u8>, step: &Step) -> Result<(), NoMemory>
 }
 
 /// Appends the lines of steps.
-#[tactic(auto, using(crate::proofs::Pieces::flat_next))]
+#[tactic(auto, using(crate::proofs::Pieces::flat_next, crate::proofs::Pieces::each_push))]
 fn put_steps(out: &mut List<u8>, steps: &[Step]) -> Result<(), NoMemory>
-    ensures { OnOk result (out.new ≡ out.old ++ flat_map printed.step_text steps.now) }
+    ensures text { OnOk result (out.new ≡ out.old ++ flat_map printed.step_text steps.now) }
+    ensures spelt { OnOk result (AllByRecursion StepSpelt steps.now) }
 {
     for step in steps {
         put_step(out, step)?;
@@ -122,7 +128,8 @@ fn put_steps(out: &mut List<u8>, steps: &[Step]) -> Result<(), NoMemory>
 
 /// Appends what stands behind a case's number, and the steps below it.
 fn put_form(out: &mut List<u8>, line: &CertLine) -> Result<(), NoMemory>
-    ensures { OnOk result (out.new ≡ out.old ++ printed.form_text line.now) }
+    ensures text { OnOk result (out.new ≡ out.old ++ printed.form_text line.now) }
+    ensures limits { OnOk result (KeepsIfFew line.now) }
 {
     match line {
         CertLine::SepLock(place) => {
@@ -163,9 +170,10 @@ fn put_kinds(
 }
 
 /// Appends the lines of cases, numbered from 0.
-#[tactic(auto, using(crate::proofs::Pieces::cases_next))]
+#[tactic(auto, using(crate::proofs::Pieces::cases_next, crate::proofs::Pieces::each_push))]
 fn put_cases(out: &mut List<u8>, lines: &[CertLine]) -> Result<(), NoMemory>
-    ensures { OnOk result (out.new ≡ out.old ++ printed.cases_text 0 lines.now) }
+    ensures text { OnOk result (out.new ≡ out.old ++ printed.cases_text 0 lines.now) }
+    ensures limits { OnOk result (AllByRecursion KeepsIfFew lines.now) }
 {
     for place in 0..lines.len() {
         out.extend(b"case ")?;
@@ -189,7 +197,8 @@ fn put_plan(out: &mut List<u8>, spec: &Spec, plan: &Plan) -> Result<(), NoMemory
 
 /// Appends the lines of a certificate.
 fn put_lines(out: &mut List<u8>, certificate: &Certificate) -> Result<(), NoMemory>
-    ensures { OnOk result (out.new ≡ out.old ++ printed.lines_text certificate.now) }
+    ensures text { OnOk result (out.new ≡ out.old ++ printed.lines_text certificate.now) }
+    ensures limits { OnOk result (AllByRecursion KeepsIfFew certificate.now.lines) }
 {
     out.extend(b"certificate\n")?;
     put_cases(out, certificate.lines.as_slice())?;
@@ -205,7 +214,8 @@ fn put_all(
     certificate: &Certificate,
 ) -> Result<List<u8>, NoMemory>
     requires { PlanFits spec.now plan.now }
-    ensures { IfOk result (λ text. text ≡ printed.certificate_text spec.now plan.now certificate.now) }
+    ensures text { IfOk result (λ text. text ≡ printed.certificate_text spec.now plan.now certificate.now) }
+    ensures limits { IfOk result (λ _. AllByRecursion KeepsIfFew certificate.now.lines) }
 {
     let mut out = List::new(alloc);
     put_plan(&mut out, spec, plan)?;
@@ -223,8 +233,10 @@ pub fn print_certificate(
 ) -> Result<List<u8>, NoMemory>
     requires { PlanFits spec.now plan.now }
     ensures text { IfOk result (λ text. text ≡ printed.certificate_text spec.now plan.now certificate.now) }
-    // It is read as this plan and certificate again.
+    // It is read as this plan and certificate again, where its numbers keep their limits: so do all
+    // but those that count locks, partitions, cases and steps.
     ensures again { IfOk result (λ text. IsReadAgain spec.now plan.now certificate.now text) }
+    ensures limits { IfOk result (λ _. AllByRecursion KeepsIfFew certificate.now.lines) }
 {
     let text = put_all(alloc, spec, plan, certificate)?;
     Ok(text)

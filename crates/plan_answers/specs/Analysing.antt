@@ -1,8 +1,9 @@
 -- What is answered to a specification that is analysed.
-use Rattle.std.specs.Prelude.{◌≡◌, ◌⊎◌, ℕ, ◌<◌, ◌≤◌, Bool, List, [], ◌∷◌, ◌++◌, codes, decimal, Option, None}
+use Rattle.std.specs.Prelude.{◌≡◌, ◌⊎◌, ℕ, ◌<◌, ◌≤◌, Bool, List, [], ◌∷◌, ◌++◌, length, codes, decimal, Option, None}
 use Rattle.std.specs.List.{find}
 use Rattle.certificate_check.specs.Checks.{AreShort, Checks}
 use Rattle.certificate_check.specs.Printed.{certificate_text}
+use Rattle.certificate_check.specs.Texts.{KeepsLimits}
 use Rattle.certificate_check.specs.declared.certificate.Certificate.{Certificate}
 use Rattle.ground_clauses.specs.Cases.{touched_cases}
 use Rattle.ground_clauses.specs.Counting.{case_count}
@@ -26,13 +27,17 @@ pub record IsAnalysed (spec : Spec) (analysed : Analysed) : Type 0 where
   pub plan : analysed.plan ≡ derived_plan spec
   pub fits : PlanFits spec analysed.plan
   pub checks : Checks spec analysed.plan analysed.certificate
+  pub short : AreShort analysed.certificate.lines
+  pub few_locks : length analysed.plan.locks ≤ 4096
+  pub few_parts : length analysed.plan.parts ≤ 4096
 
--- and their text
+-- and their text, whose numbers a check reads
 pub record IsPlanned (spec : Spec) (text : List ℕ) : Type 0 where
   pub has : HasPlan spec
   pub certificate : Certificate
   pub fits : PlanFits spec (derived_plan spec)
   pub checks : Checks spec (derived_plan spec) certificate
+  pub limits : KeepsLimits (derived_plan spec) certificate
   pub written : text ≡ certificate_text spec (derived_plan spec) certificate
 
 abbrev pub hard_text : ℕ → List ℕ

@@ -2,3 +2,4 @@ pub mod Texts
 pub mod Checking
 pub mod Analysing
 pub mod Splitting
+pub mod Laws

@@ -10,12 +10,13 @@ use crate::answer::{Answer, counted};
 use certificate_check::print_certificate;
 use ground_clauses::Case;
 use ind_base::{List, NoMemory, put_num};
-use rejection_text::put_rejection;
+use rejection_text::rejection;
 use reservation_plan::{Analysed, DeriveError, derive};
 use spec_model::Spec;
 use std::alloc::Global;
 
 /// The plan and its certificate.
+#[tactic(auto, using(crate::proofs::Limits::keeps_limits))]
 fn planned(alloc: Global, spec: &Spec, analysed: &Analysed) -> Result<Answer, NoMemory>
     requires { analyses.IsAnalysed spec.now analysed.now }
     ensures { IfOk result (λ a. (a.status ≡ 0) × analyses.IsPlanned spec.now a.text) }
@@ -37,11 +38,10 @@ fn rejected(
     requires fits { CaseFits spec.now case.now }
     ensures { IfOk result (λ a. (a.status ≡ 1) × (a.text ≡ rejections.rejection_text spec.now case.now model.now)) }
 {
-    let mut text = List::new(alloc);
-    match model {
-        Some(model) => put_rejection(alloc, &mut text, spec, case, Some(model.as_slice()))?,
-        None => put_rejection(alloc, &mut text, spec, case, None)?,
-    }
+    let text = match model {
+        Some(model) => rejection(alloc, spec, case, Some(model.as_slice()))?,
+        None => rejection(alloc, spec, case, None)?,
+    };
     Ok(Answer { status: 1, text })
 }
 

@@ -5,9 +5,11 @@
 mod analysing;
 mod answer;
 mod checking;
+mod laws;
 mod splitting;
 
 pub use analysing::analyse_answer;
 pub use answer::Answer;
 pub use checking::check_answer;
+pub use laws::planned_is_checked;
 pub use splitting::{line_count, lines, split_at_plan};

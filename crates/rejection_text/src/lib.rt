@@ -4,4 +4,4 @@
 mod lines;
 mod parts;
 
-pub use lines::put_rejection;
+pub use lines::rejection;

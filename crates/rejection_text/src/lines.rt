@@ -1,6 +1,6 @@
 //! The lines of a rejection.
 
-ghost use Rattle.std.specs.Prelude.{◌≡◌, ◌++◌, OnOk};
+ghost use Rattle.std.specs.Prelude.{◌≡◌, ◌++◌, IfOk, OnOk};
 ghost use Rattle.std.specs.List.{flat_map};
 ghost use Rattle.std.specs.Option.{option_map};
 ghost use Rattle.ground_clauses.specs.Cases.{CaseKnown};
@@ -131,21 +131,21 @@ fn put_states(
     }
 }
 
-/// Appends the text of a rejected pair: the line of its operations, that of the case, and, where a
-/// model of the case's query is given, a line for each atom of the query. After an error a front of
-/// the text may have been appended.
-pub fn put_rejection(
+/// The text of a rejected pair: the line of its operations, that of the case, and, where a model of
+/// the case's query is given, a line for each atom of the query.
+pub fn rejection(
     alloc: Global,
-    out: &mut List<u8>,
     spec: &Spec,
     case: &Case,
     model: Option<&[bool]>,
-) -> Result<(), NoMemory>
+) -> Result<List<u8>, NoMemory>
     requires well_formed { IsWellFormed spec.now }
     requires fits { CaseFits spec.now case.now }
-    ensures { OnOk result (out.new ≡ out.old ++ texts.rejection_text spec.now case.now (option_map (λ m. m.now) model.entry)) }
+    ensures { IfOk result (λ text. text ≡ texts.rejection_text spec.now case.now (option_map (λ m. m.now) model.entry)) }
 {
-    put_pair(out, spec, case)?;
-    put_case(out, spec, case)?;
-    put_states(alloc, out, spec, case, model)
+    let mut out = List::new(alloc);
+    put_pair(&mut out, spec, case)?;
+    put_case(&mut out, spec, case)?;
+    put_states(alloc, &mut out, spec, case, model)?;
+    Ok(out)
 }

@@ -45,6 +45,17 @@ flat_short of (p ∷ ps) one =
     let b : length (flat_map of ps) ≤ length ps = flat_short of ps one in
     omega (arith, e, a, b)
 
+-- a reservation for each pair of operations at most
+locks_few : (spec : Spec) → IsWellFormed spec → length (derived_plan spec).locks ≤ 4096
+locks_few spec wf =
+    let l : length (flat_map (locks_at spec) (pairs_of spec)) ≤ length (pairs_of spec) = flat_short (locks_at spec) (pairs_of spec) (λ q. locks_one spec q.a q.b (conflicts spec q.a q.b)) in
+    omega (arith, l, few_pairs spec wf.few_ops)
+
+parts_few : (spec : Spec) → IsWellFormed spec → length (derived_plan spec).parts ≤ 4096
+parts_few spec wf =
+    let p : length (flat_map (parts_at spec) (pairs_of spec)) ≤ length (pairs_of spec) = flat_short (parts_at spec) (pairs_of spec) (λ q. parts_one spec q.a q.b (conflicts spec q.a q.b)) in
+    omega (arith, p, few_pairs spec wf.few_ops)
+
 -- what adding a pair asks
 pub record IsNext (spec : Spec) (p : Pair) (d : Draft) : Type 0 where
   pub known_a : p.a < length spec.ops
@@ -136,3 +147,11 @@ pub answer_stable : (spec : Spec) (r : Result Analysed DeriveError) → IsWellFo
     → IfOk r (λ x. (e o : Inst) → InstFits spec e → InstFits spec o → (Separates spec x.plan e o → ⊥) → IsStable spec e o)
 answer_stable spec (Ok x) wf h k = checked_is_stable spec x.plan x.certificate wf (subst (PlanFits spec) (sym h) (plan_made spec)) k
 answer_stable spec (Err e) wf h k = tt
+
+pub answer_few_locks : (spec : Spec) (r : Result Analysed DeriveError) → IsWellFormed spec → IfOk r (λ x. x.plan ≡ derived_plan spec) → IfOk r (λ x. length x.plan.locks ≤ 4096)
+answer_few_locks spec (Ok x) wf h = subst (λ (plan : Plan). length plan.locks ≤ 4096) (sym h) (locks_few spec wf)
+answer_few_locks spec (Err e) wf h = tt
+
+pub answer_few_parts : (spec : Spec) (r : Result Analysed DeriveError) → IsWellFormed spec → IfOk r (λ x. x.plan ≡ derived_plan spec) → IfOk r (λ x. length x.plan.parts ≤ 4096)
+answer_few_parts spec (Ok x) wf h = subst (λ (plan : Plan). length plan.parts ≤ 4096) (sym h) (parts_few spec wf)
+answer_few_parts spec (Err e) wf h = tt

@@ -116,6 +116,8 @@ pub fn derive(alloc: Global, spec: &Spec) -> Result<Analysed, DeriveError>
     ensures fits { IfOk result (λ x. PlanFits spec.now x.plan) }
     ensures checks { IfOk result (λ x. Checks spec.now x.plan x.certificate) }
     ensures short { IfOk result (λ x. AreShort x.certificate.lines) }
+    ensures few_locks { IfOk result (λ x. length x.plan.locks ≤ 4096) }
+    ensures few_parts { IfOk result (λ x. length x.plan.parts ≤ 4096) }
     // Instances that the plan doesn't separate are stable, for all elements of all sorts.
     ensures stable { IfOk result (λ x. (e o : Inst) → InstFits spec.now e → InstFits spec.now o → (Separates spec.now x.plan e o → ⊥) → IsStable spec.now e o) }
 

@@ -17,6 +17,7 @@ use scenario_lines::{NamedArg, RunLine};
 use spec_language::SpecDraft;
 use spec_lines::SpecLine;
 use std::alloc::Global;
+use std::mem;
 
 /// What a document is so far.
 #[derive(Drop)]
@@ -81,7 +82,9 @@ impl Draft {
         ensures { Gives (λ _. self.new) result (drafts.take_spec self.old line) }
     {
         guard(self.rank == 0, Cause::OutOfPlace)?;
-        self.spec.step(alloc, line)
+        let spec = mem::replace(&mut self.spec, SpecDraft::new(alloc));
+        self.spec = spec.step(alloc, line)?;
+        Ok(())
     }
 
     #[tactic(auto, unfolding(crate::specs::Draft::take_replicas))]

@@ -10,7 +10,7 @@ use crate::saying::{say_ask, say_order, say_stop};
 use ind_base::{List, NoMemory};
 use run_model::Order;
 use scenario_lines::{RunLine, put_run_line};
-use spec_language::put_spec;
+use spec_language::print_spec;
 use spec_model::Op;
 use std::alloc::Global;
 
@@ -103,7 +103,7 @@ fn put_document(out: &mut List<u8>, alloc: Global, document: &Document) -> Resul
     ensures { OnOk result (out.new ≡ out.old ++ sayings.document_text document.now) }
 {
     let ops = document.spec.ops.as_slice();
-    put_spec(out, alloc, &document.spec)?;
+    out.extend(print_spec(alloc, &document.spec)?.as_slice())?;
     put_line(out, &RunLine::Replicas(u64::from(document.replicas)))?;
     put_stops(out, document.stops.as_slice())?;
     put_work(out, alloc, ops, &document.work)

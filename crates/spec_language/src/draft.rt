@@ -401,7 +401,7 @@ impl SpecDraft {
 
     /// What a line adds, or its first cause.
     #[tactic(auto, unfolding(crate::specs::Draft::step))]
-    pub fn step(&mut self, alloc: Global, line: SpecLine) -> Result<(), LineError>
+    fn take(&mut self, alloc: Global, line: SpecLine) -> Result<(), LineError>
         requires { Bounds self.old }
         ensures { Gives (λ _. self.new) result (drafts.step self.old line) }
     {
@@ -444,5 +444,16 @@ impl SpecDraft {
             } => self.take_change(raises, amount, num.as_slice(), params.as_slice()),
             SpecLine::Free { first, second } => self.take_free(first.as_slice(), second.as_slice()),
         }
+    }
+
+    /// The draft with what a line adds, or the line's first cause. No draft is left of a line that is
+    /// refused, or for which there is no memory.
+    pub fn step(self, alloc: Global, line: SpecLine) -> Result<SpecDraft, LineError>
+        requires { Bounds self }
+        ensures { Gives (λ d. d) result (drafts.step self line) }
+    {
+        let mut draft = self;
+        draft.take(alloc, line)?;
+        Ok(draft)
     }
 }

@@ -17,6 +17,6 @@ pub use draft::SpecDraft;
 pub use law::{ops_are_named, said_again};
 pub use line_text::{Cause, LineError, ParseError};
 pub use named::{Named, has_name, is_reserved, place_of};
-pub use printing::{print_spec, put_spec};
+pub use printing::print_spec;
 pub use reading::parse_spec;
 pub use saying::name_at;

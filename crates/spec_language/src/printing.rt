@@ -124,8 +124,7 @@ fn put_frees(out: &mut List<u8>, alloc: Global, ops: &[Op], free: &[Pair]) -> Re
     Ok(())
 }
 
-/// Appends the canonical text of a specification.
-pub fn put_spec(out: &mut List<u8>, alloc: Global, spec: &Spec) -> Result<(), NoMemory>
+fn put_spec(out: &mut List<u8>, alloc: Global, spec: &Spec) -> Result<(), NoMemory>
     ensures { OnOk result (out.new ≡ out.old ++ sayings.spec_text spec.now) }
 {
     let sorts = spec.sorts.as_slice();

@@ -16,12 +16,12 @@ use std::alloc::Global;
 
 /// What the tokens of a line add.
 #[tactic(auto, unfolding(crate::specs::Reading::taken))]
-fn take(draft: &mut SpecDraft, alloc: Global, tokens: &[Token]) -> Result<(), LineError>
-    requires { Bounds draft.old }
-    ensures { Gives (λ _. draft.new) result (reading.taken draft.old tokens.now) }
+fn take(draft: SpecDraft, alloc: Global, tokens: &[Token]) -> Result<SpecDraft, LineError>
+    requires { Bounds draft }
+    ensures { Gives (λ d. d) result (reading.taken draft tokens.now) }
 {
     match tokens {
-        [] => Ok(()),
+        [] => Ok(draft),
         [Token::Word(word), rest @ ..] => match spec_line_of(alloc, word.as_slice(), rest)? {
             Some(line) => draft.step(alloc, line),
             None => Err(LineError::Refused(Cause::UnknownLine)),
@@ -32,9 +32,9 @@ fn take(draft: &mut SpecDraft, alloc: Global, tokens: &[Token]) -> Result<(), Li
 
 /// Takes the next line.
 #[tactic(auto, unfolding(crate::specs::Reading::accept))]
-fn accept(draft: &mut SpecDraft, alloc: Global, line: &[u8]) -> Result<(), LineError>
-    requires { Bounds draft.old }
-    ensures { Gives (λ _. draft.new) result (reading.accept draft.old line.now) }
+fn accept(draft: SpecDraft, alloc: Global, line: &[u8]) -> Result<SpecDraft, LineError>
+    requires { Bounds draft }
+    ensures { Gives (λ d. d) result (reading.accept draft line.now) }
 {
     let tokens = line_tokens(alloc, line)?;
     take(draft, alloc, tokens.as_slice())
@@ -50,8 +50,8 @@ pub fn parse_spec(alloc: Global, lines: &[Text]) -> Result<Spec, ParseError>
     let mut draft = SpecDraft::new(alloc);
     let mut number = 1u32;
     for line in lines {
-        match accept(&mut draft, alloc, line.as_slice()) {
-            Ok(()) => {}
+        match accept(draft, alloc, line.as_slice()) {
+            Ok(next) => draft = next,
             Err(error) => return Err(at_line(number, error)),
         }
         number += 1;

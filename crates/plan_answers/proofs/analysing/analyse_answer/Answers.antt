@@ -1,4 +1,3 @@
-use Rattle.std.proofs.Common.{◌≡◌, sym}
 use Rattle.plan_answers.proofs.Rejecting.{rejected_fits}
 use Rattle.plan_answers.proofs.analysing.analyse_answer.Goals as goal
 
