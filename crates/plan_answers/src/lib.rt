@@ -7,7 +7,7 @@ mod answer;
 mod checking;
 mod splitting;
 
-pub use analysing::analyse_answer;
+pub use analysing::{Analysis, analyse, analyse_answer};
 pub use answer::Answer;
 pub use checking::check_answer;
 pub use splitting::{line_count, lines, split_at_plan};
