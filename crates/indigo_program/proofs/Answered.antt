@@ -14,7 +14,7 @@ use Rattle.scenario_text.specs.Groups.{unbuilt_words, first_line}
 use Rattle.scenario_text.specs.Reading.{document_of}
 use Rattle.indigo_program.specs.declared.command.Command.{Command}
 use Rattle.indigo_program.specs.declared.command.Command.TheVariants as commands
-use Rattle.indigo_program.specs.Headline.{Stream, Failed, WasRead, IsNamed, IsReply, IsAnswerTo, IsAnswered, IsComplete, IsOwed, IsOwedBy, Makes, Succeeds, input_limit}
+use Rattle.indigo_program.specs.Headline.{Stream, Failed, WasRead, IsNamed, IsReply, IsAnswerTo, IsAnswered, IsComplete, IsOwed, IsOwedBy, IsRunAnswer, Makes, Succeeds, input_limit}
 use Rattle.indigo_program.specs.Inputs.{IsInputOf, IsOfClients, Refuses, document_before}
 use Rattle.std.specs.List.{find}
 use Rattle.spec_model.specs.declared.plan.Plan.{Plan}
@@ -32,7 +32,7 @@ use Rattle.certificate_check.specs.declared.verdict.Why.{Why}
 use Rattle.certificate_check.proofs.Verdicts.{yes_checks}
 use Rattle.reservation_plan.specs.Ends.{ends}
 use Rattle.plan_answers.specs.Analysing as analyses
-use Rattle.plan_answers.specs.Analysing.{HasPlan}
+use Rattle.plan_answers.specs.Analysing.{HasPlan, IsPlanless}
 use Rattle.plan_answers.specs.Checking as checks
 use Rattle.plan_answers.specs.Checking.{HasYes}
 use Rattle.plan_answers.specs.Splitting.{document_lines, plan_lines}
@@ -150,13 +150,13 @@ input_whole commands.Print bytes line cause bad (d, read) = both_read (document_
 
 -- it succeeds for inputs that it is for
 success_input : (command : Command) (bytes : List ℕ) → Succeeds command bytes → IsInputOf command bytes
-success_input commands.Simulate bytes h = h
+success_input commands.Simulate bytes (d, orders, run, plan) = (d, orders, run)
 success_input commands.Analyse bytes (d, read, plan) = (d, read)
 success_input commands.Check bytes (d, read, checked) = (d, read)
 success_input commands.Print bytes h = h
 
 makes_input : (command : Command) (bytes text : List ℕ) (status : ℕ) → Makes command bytes status text → IsInputOf command bytes
-makes_input commands.Simulate bytes text status (is, trace) = (trace.document, trace.orders, trace.taken)
+makes_input commands.Simulate bytes text status made = (made.document, made.orders, made.taken)
 makes_input commands.Analyse bytes text status made = (made.document, made.read)
 makes_input commands.Check bytes text status made = (made.document, made.read)
 makes_input commands.Print bytes text status (is, printed) = (printed.document, printed.read)
@@ -177,13 +177,20 @@ is_zero P status p is = record { zero_if = λ _. is; only_if = λ _. p }
 both_found : (found : Option Case) (k : Case) → found ≡ Some k → found ≡ None → ⊥
 both_found found k some none = absurd (let both = sym some ∙ none in cc)
 
-analysis_zero : (spec : Spec) (status : ℕ) (text : List ℕ) → analyses.IsAnswer spec status text → IsZeroWhere (HasPlan spec) status
-analysis_zero spec status text (inl (is, planned)) = is_zero (HasPlan spec) status planned.has is
-analysis_zero spec status text (inr (inl (is, many))) = not_zero (HasPlan spec) status (λ h. absurd (omega (arith, h.few, many.many))) (λ zero. absurd (omega (arith, is, zero)))
-analysis_zero spec status text (inr (inr (inl (is, rejection)))) =
+planless_zero : (spec : Spec) (status : ℕ) (text : List ℕ) → IsPlanless spec status text → IsZeroWhere (HasPlan spec) status
+planless_zero spec status text (inl (is, many)) = not_zero (HasPlan spec) status (λ h. absurd (omega (arith, h.few, many.many))) (λ zero. absurd (omega (arith, is, zero)))
+planless_zero spec status text (inr (inl (is, rejection))) =
     not_zero (HasPlan spec) status (λ h. both_found (find (ends spec) (touched_cases spec)) rejection.case rejection.rejected.first h.goes) (λ zero. absurd (omega (arith, is, zero)))
-analysis_zero spec status text (inr (inr (inr (is, hard)))) =
+planless_zero spec status text (inr (inr (is, hard))) =
     not_zero (HasPlan spec) status (λ h. both_found (find (ends spec) (touched_cases spec)) hard.hard.case hard.hard.first h.goes) (λ zero. absurd (omega (arith, is, zero)))
+
+analysis_zero : (spec : Spec) (status : ℕ) (text : List ℕ) → analyses.IsAnswer spec status text → IsZeroWhere (HasPlan spec) status
+analysis_zero spec status text (inl (is, planned)) = is_zero (HasPlan spec) status planned.certified.has is
+analysis_zero spec status text (inr none) = planless_zero spec status text none
+
+run_zero : (spec : Spec) (replicas : ℕ) (orders : List Order) (status : ℕ) (text : List ℕ) → IsRunAnswer spec replicas orders status text → IsZeroWhere (HasPlan spec) status
+run_zero spec replicas orders status text (inl (is, trace)) = is_zero (HasPlan spec) status trace.certified.has is
+run_zero spec replicas orders status text (inr none) = planless_zero spec status text none
 
 same_parts : (r : Read) (plan given : Plan) (certificate other : Certificate) → r ≡ reads.Parts plan certificate → r ≡ reads.Parts given other → (plan ≡ given) × (certificate ≡ other)
 same_parts r plan given certificate other first second = let both = sym first ∙ second in (cc, cc)
@@ -209,7 +216,12 @@ check_zero spec before lines status text (inr (few, inr (line, read, refusal))) 
     not_zero (HasYes spec lines) status (λ h. both_kinds (read_of spec lines) h.plan h.certificate line h.read read) (λ zero. absurd (omega (arith, refusal.status_is, zero)))
 
 makes_zero : (command : Command) (bytes text : List ℕ) (status : ℕ) → Makes command bytes status text → IsZeroWhere (Succeeds command bytes) status
-makes_zero commands.Simulate bytes text status (is, trace) = is_zero (Succeeds commands.Simulate bytes) status (trace.document, trace.orders, trace.taken) is
+makes_zero commands.Simulate bytes text status made =
+    let h = run_zero made.document.spec made.document.replicas made.orders status text made.answer in
+    record {
+      zero_if = λ (d, orders, run, plan). h.zero_if (subst (λ (x : Document). HasPlan x.spec) (one_document (document_of bytes) d made.document run.read made.taken.read) plan);
+      only_if = λ is. (made.document, made.orders, made.taken, h.only_if is);
+    }
 makes_zero commands.Analyse bytes text status made =
     let h = analysis_zero made.document.spec status text made.answer in
     record {

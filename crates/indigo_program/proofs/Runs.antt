@@ -1,21 +1,14 @@
 -- Documents that are run or refused.
-use Rattle.std.proofs.Common.{◌≡◌, inl, inr, ℕ, zero, suc, true, false, List, [], ◌∷◌, get_or, length, refl, sym, ap, subst, ◌∙◌, arith}
-use Rattle.std.specs.Prelude.{Contains, None, Result, Ok, Err, IfOk, slice_get}
+use Rattle.std.proofs.Common.{◌≡◌, inl, inr, ℕ, zero, suc, false, List, [], ◌∷◌, length, refl, sym, ap, subst, ◌∙◌}
+use Rattle.std.specs.Prelude.{None, Result, Ok, Err, IfOk, slice_get}
 use Rattle.std.specs.List.{AllByRecursion}
 use Rattle.std.specs.Option.{option_map_or}
 use Rattle.spec_model.specs.declared.spec.Num.{Num}
-use Rattle.spec_model.specs.declared.spec.Pred.{Pred}
-use Rattle.spec_model.specs.declared.clause.Clause.{Clause}
-use Rattle.spec_model.specs.declared.instance.Inst.{Inst}
-use Rattle.spec_model.specs.Fits.{marked_from}
-use Rattle.spec_model.specs.Stable.{IsStable}
-use Rattle.spec_model.specs.Truths.{no_pred, rule_locks}
 use Rattle.line_text.specs.declared.cause.Cause.{Cause}
 use Rattle.replica_core.specs.Tables.{HasLowsAlone}
-use Rattle.run_model.specs.Sound.{IsSettled}
+use Rattle.reservation_plan.proofs.Lacking.{no_locks, no_masks, no_parts}
 use Rattle.scenario_text.specs.declared.document.Document.{Document}
 use Rattle.scenario_text.specs.Built.{IsBuilt}
-use Rattle.scenario_text.specs.WellFormed.{IsWellFormedDocument}
 use Rattle.line_text.specs.Lines.{lines_of}
 use Rattle.scenario_text.specs.Reading.{document_of, document_of_draft, draft_of}
 use Rattle.plan_answers.specs.Checking as checks
@@ -32,29 +25,13 @@ no_most [] n all = refl
 no_most (num ∷ nums) zero all = all.0
 no_most (num ∷ nums) (suc n) all = no_most nums n all.1
 
--- a document that can be run has rights to lower cells alone
-pub built_lows : (d : Document) → IsBuilt d → HasLowsAlone (setup_of d)
-built_lows d built = record { upper = λ cell. no_most d.spec.nums cell.num built.nums; locks = refl; masks = refl; parts = refl }
-
-none_locked : (preds : List Pred) (p : ℕ) → AllByRecursion (λ pred. rule_locks pred.rule ≡ false) preds → rule_locks (get_or preds p no_pred).rule ≡ false
-none_locked [] p all = refl
-none_locked (pred ∷ preds) zero all = all.0
-none_locked (pred ∷ preds) (suc p) all = none_locked preds p all.1
-
--- without clauses and locked predicates all pairs are stable
-built_stable : (d : Document) (e o : Inst) → IsBuilt d → IsStable d.spec e o
-built_stable d e o built = record {
-  keeps = λ q row start first second c there. let none = subst (λ (l : List Clause). Contains l c) built.clauses there in absurd (omega (arith, none.1));
-  agrees = λ p xs v locked within sets same. absurd (let wrong : true ≡ false = sym locked ∙ none_locked d.spec.preds p built.preds in cc);
-}
-
--- so an empty plan is enough
-pub built_settled : (d : Document) → IsBuilt d → IsWellFormedDocument d → IsSettled (setup_of d)
-built_settled d built formed = record {
-  some = omega (arith, formed.some_replicas);
-  spec = formed.spec;
-  plan = record { locks_fit = tt; parts_fit = tt; once = tt; masks = sym (ap (marked_from 0) built.clauses) };
-  enough = λ e o fits too apart. built_stable d e o built;
+-- a document that can be run has rights to lower alone
+pub lows_alone : (d : Document) → IsBuilt d → HasLowsAlone (setup_of d.spec d.replicas)
+lows_alone d built = record {
+  upper = λ cell. no_most d.spec.nums cell.num built.nums;
+  locks = no_locks d.spec built.clauses built.preds;
+  masks = no_masks d.spec (subst (AllByRecursion (λ clause. clause.mask ≡ false)) (sym built.clauses) tt);
+  parts = no_parts d.spec built.ops;
 }
 
 -- the reply that refuses a line is an answer

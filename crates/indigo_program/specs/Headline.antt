@@ -4,14 +4,16 @@ use Rattle.std.specs.declared.option.Option.{Option}
 use Rattle.std.specs.Io.KnownBytes.{Appends, Consumes, IsAtEnd, Keeps}
 use Rattle.ind_io.specs.Causes.{Rose}
 use Rattle.ind_io.specs.Streams.{ConsumesJust, ConsumesWithin}
-use Rattle.spec_model.specs.declared.plan.Plan.{Plan}
 use Rattle.spec_model.specs.declared.plan.Setup.{Setup}
+use Rattle.spec_model.specs.declared.spec.Spec.{Spec}
 use Rattle.run_model.specs.declared.step.Order.{Order}
 use Rattle.run_model.specs.declared.step.StepEntry.{StepEntry}
 use Rattle.run_model.specs.Worlds.{World}
 use Rattle.run_model.specs.Runs.{IsLegal}
 use Rattle.run_model.specs.Sound.{AtEachStep, IsSound}
 use Rattle.run_model.specs.Trace.{trace_text}
+use Rattle.reservation_plan.specs.Derived.{derived_plan}
+use Rattle.certificate_check.specs.declared.certificate.Certificate.{Certificate}
 use Rattle.line_text.specs.declared.cause.Cause.{Cause}
 use Rattle.scenario_text.specs.declared.document.Document.{Document}
 use Rattle.scenario_text.specs.Reading.{IsDocument, document_of}
@@ -21,19 +23,15 @@ use Rattle.indigo_program.specs.declared.command.Command.TheVariants as commands
 use Rattle.indigo_program.specs.CauseTexts.{refusal_text}
 use Rattle.line_text.specs.Lines.{lines_of}
 use Rattle.plan_answers.specs.Analysing as analyses
-use Rattle.plan_answers.specs.Analysing.{HasPlan}
+use Rattle.plan_answers.specs.Analysing.{HasPlan, IsCertified, IsPlanless}
 use Rattle.plan_answers.specs.Checking as checks
 use Rattle.plan_answers.specs.Checking.{HasYes}
 use Rattle.plan_answers.specs.Splitting.{document_lines, plan_lines}
 use Rattle.indigo_program.specs.Inputs.{IsInputOf, IsRunnable, Refuses, document_before}
 
--- a plan without reservations
-abbrev pub no_plan : Plan
-no_plan = record { locks = []; masks = []; parts = [] }
-
--- what the replicas of a document agree on
-abbrev pub setup_of : Document → Setup
-setup_of document = record { spec = document.spec; plan = no_plan; replicas = document.replicas }
+-- what replicas agree on: the specification, the derived plan, and how many they are
+abbrev pub setup_of : Spec → ℕ → Setup
+setup_of spec replicas = record { spec = spec; plan = derived_plan spec; replicas = replicas }
 
 -- the text is the trace of a legal run of the schedule, which is sound at each step
 pub record IsLegalTrace (setup : Setup) (schedule : List Order) (text : List ℕ) : Type 0 where
@@ -43,12 +41,22 @@ pub record IsLegalTrace (setup : Setup) (schedule : List Order) (text : List ℕ
   pub sound : AtEachStep setup entries (IsSound setup)
   pub written : text ≡ trace_text setup entries world
 
--- the bytes are a document that can be run, and the text is the trace of a legal run of it
-pub record IsTrace (bytes text : List ℕ) : Type 0 where
+-- a certificate of the derived plan checks, and the text is the trace of a legal run by that plan
+pub record IsTrace (spec : Spec) (replicas : ℕ) (orders : List Order) (text : List ℕ) : Type 0 where
+  pub certificate : Certificate
+  pub certified : IsCertified spec certificate
+  pub trace : IsLegalTrace (setup_of spec replicas) orders text
+
+-- what is answered to a schedule: such a trace, or why there is no plan
+abbrev pub IsRunAnswer : Spec → ℕ → List Order → ℕ → List ℕ → Type 0
+IsRunAnswer spec replicas orders status text = ((status ≡ 0) × IsTrace spec replicas orders text) ⊎ IsPlanless spec status text
+
+-- the bytes are a document that can be run, and this is answered to its schedule
+pub record IsSimulated (bytes : List ℕ) (status : ℕ) (text : List ℕ) : Type 0 where
   pub document : Document
   pub orders : List Order
   pub taken : IsRunnable bytes document orders
-  pub trace : IsLegalTrace (setup_of document) orders text
+  pub answer : IsRunAnswer document.spec document.replicas orders status text
 
 -- the bytes are a document, and the text is its canonical one
 pub record IsPrinted (bytes text : List ℕ) : Type 0 where
@@ -70,7 +78,7 @@ pub record IsChecked (bytes : List ℕ) (status : ℕ) (text : List ℕ) : Type 
 
 -- what a command makes of an input that it is for
 abbrev pub Makes : Command → List ℕ → ℕ → List ℕ → Type 0
-Makes commands.Simulate bytes status text = (status ≡ 0) × IsTrace bytes text
+Makes commands.Simulate bytes status text = IsSimulated bytes status text
 Makes commands.Analyse bytes status text = IsAnalysed bytes status text
 Makes commands.Check bytes status text = IsChecked bytes status text
 Makes commands.Print bytes status text = (status ≡ 0) × IsPrinted bytes text
@@ -153,9 +161,9 @@ IsAnswered words source sink status =
     ⊎ ((status ≡ 5) × IsCutOff words source sink)
     ⊎ ((status ≡ 9) × ((command : Command) × IsNamed words command) × ConsumesWithin source.before source.after (input_limit + 1) × Keeps sink.before sink.after)
 
--- the inputs for which a command succeeds: a schedule that is run, a specification that has a plan, a plan with a certificate that checks, a document
+-- the inputs for which a command succeeds: a schedule that is run and a specification that has a plan, such a specification alone, a plan with a certificate that checks, a document
 abbrev pub Succeeds : Command → List ℕ → Type 0
-Succeeds commands.Simulate bytes = IsInputOf commands.Simulate bytes
+Succeeds commands.Simulate bytes = (document : Document) × (orders : List Order) × IsRunnable bytes document orders × HasPlan document.spec
 Succeeds commands.Analyse bytes = (document : Document) × (document_of bytes ≡ Ok document) × HasPlan document.spec
 Succeeds commands.Check bytes = (document : Document) × (document_before bytes ≡ Ok document) × HasYes document.spec (plan_lines (lines_of bytes))
 Succeeds commands.Print bytes = IsDocument bytes

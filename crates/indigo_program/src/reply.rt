@@ -2,6 +2,7 @@
 
 ghost use Rattle.std.specs.Prelude.{◌≡◌, ◌<◌, ◌≤◌, ◌++◌, IfOk, Ok, OnOk, codes, length};
 ghost use Rattle.std.specs.List.{AllByRecursion};
+ghost use Rattle.spec_model.specs.Fits.{IsWellFormed};
 ghost use Rattle.run_model.specs.Sound.{IsSettled};
 ghost use Rattle.replica_core.specs.Tables.{HasLowsAlone};
 ghost use Rattle.scenario_text.specs.Built.{StaysUp};
@@ -10,19 +11,21 @@ ghost use Rattle.scenario_text.specs.WellFormed.{IsWellFormedDocument, ScheduleF
 ghost use Rattle.line_text.specs.Lines.{lines_of};
 ghost use Rattle.plan_answers.specs.Checking as checks;
 ghost use Rattle.indigo_program.specs.CauseTexts.{cause_text, refusal_text};
-ghost use Rattle.indigo_program.specs.Headline.{IsAnswerTo, IsLegalTrace, input_limit, no_plan};
+ghost use Rattle.indigo_program.specs.Headline.{IsAnswerTo, IsLegalTrace, IsRunAnswer, input_limit, setup_of};
 ghost use Rattle.indigo_program.specs.declared.command.Command.TheVariants as commands;
 
 use crate::command::Command;
 use ind_base::{List, NoMemory, put_num};
-use plan_answers::{Answer, analyse_answer, check_answer, line_count, lines, split_at_plan};
+use plan_answers::{
+    Analysis, Answer, analyse, analyse_answer, check_answer, line_count, lines, split_at_plan,
+};
 use request_workers::simulate;
 use run_model::Order;
 use run_trace::trace_text;
 use scenario_text::{
     Cause, Document, Group, ParseError, Work, first_of, parse_document, print_document,
 };
-use spec_model::{Plan, Setup, Spec};
+use spec_model::{Setup, Spec};
 use std::alloc::Global;
 
 fn put_cause(out: &mut List<u8>, cause: Cause) -> Result<(), NoMemory>
@@ -58,26 +61,46 @@ fn refused(alloc: Global, line: u32, cause: Cause) -> Result<Answer, NoMemory>
 }
 
 /// The trace of replicas on a schedule.
-fn trace(alloc: Global, spec: Spec, replicas: u32, orders: &[Order]) -> Result<List<u8>, NoMemory>
-    requires settled { IsSettled (record { spec = spec; plan = no_plan; replicas = replicas }) }
-    requires alone { HasLowsAlone (record { spec = spec; plan = no_plan; replicas = replicas }) }
+fn trace(alloc: Global, setup: &Setup, orders: &[Order]) -> Result<List<u8>, NoMemory>
+    requires settled { IsSettled setup.now }
+    requires alone { HasLowsAlone setup.now }
+    requires few { setup.now.replicas ≤ 8 }
+    requires schedule { ScheduleFits setup.now.spec setup.now.replicas orders.now }
+    requires up { AllByRecursion (λ order. StaysUp order.ask) orders.now }
+    ensures { IfOk result (λ text. IsLegalTrace setup.now orders.now text) }
+{
+    let histories = simulate(alloc, setup, orders)?;
+    trace_text(alloc, &setup.spec, histories.as_slice())
+}
+
+/// Runs replicas on a schedule by the derived plan, or says why there is none.
+fn run_by_plan(
+    alloc: Global,
+    spec: Spec,
+    replicas: u32,
+    orders: &[Order],
+) -> Result<Answer, NoMemory>
+    requires well_formed { IsWellFormed spec }
+    requires alone { HasLowsAlone (setup_of spec replicas) }
+    requires some { 0 < replicas }
     requires few { replicas ≤ 8 }
     requires schedule { ScheduleFits spec replicas orders.now }
     requires up { AllByRecursion (λ order. StaysUp order.ask) orders.now }
-    ensures { IfOk result (λ text. IsLegalTrace (record { spec = spec; plan = no_plan; replicas = replicas }) orders.now text) }
+    ensures { IfOk result (λ reply. IsRunAnswer spec replicas orders.now reply.status reply.text) }
 {
-    let plan = Plan {
-        locks: List::new(alloc),
-        masks: List::new(alloc),
-        parts: List::new(alloc),
+    let plan = match analyse(alloc, &spec)? {
+        Analysis::Planned(analysed) => analysed.plan,
+        Analysis::Planless(answer) => return Ok(answer),
     };
     let setup = Setup {
         spec,
         plan,
         replicas,
     };
-    let histories = simulate(alloc, &setup, orders)?;
-    trace_text(alloc, &setup.spec, histories.as_slice())
+    Ok(Answer {
+        status: 0,
+        text: trace(alloc, &setup, orders)?,
+    })
 }
 
 /// Runs a document, or refuses a line of it that isn't run.
@@ -100,10 +123,7 @@ fn run(alloc: Global, bytes: &[u8], document: Document) -> Result<Answer, NoMemo
         },
         Work::Schedule(orders) => match first_of(bytes, Group::Unbuilt) {
             Some(line) => refused(alloc, line, Cause::UnknownLine),
-            None => Ok(Answer {
-                status: 0,
-                text: trace(alloc, spec, replicas, orders.as_slice())?,
-            }),
+            None => run_by_plan(alloc, spec, replicas, orders.as_slice()),
         },
     }
 }

@@ -25,12 +25,16 @@ fn finish<K: Sink>(sink: &mut K, text: &[u8], status: u8) -> u8
 /// Reads an input to its end, decides and writes the answer, whose status it returns.
 ///
 /// `print` takes a document and prints its canonical text; `simulate` takes a document with a
-/// schedule, or with no work, and prints the trace of its replicas (0). Other words are answered
-/// `bad words` (2), and a text that is no document by its first refused line (3). So does `simulate`
-/// refuse the first line about clients as `out of place`, and in other documents the first line with
-/// a word that it doesn't run yet as `unknown line`. A source that fails is answered `read fault`
-/// (4), and more than 4,194,304 bytes `input too long` (6). A sink that fails is 5, with a front of
-/// the text out. Want of memory is 9, and nothing is written.
+/// schedule, or with no work, derives its plan and prints the trace of its replicas; `analyse` prints
+/// the plan with a certificate; `check` takes a document with these behind it, and answers whether
+/// they check (all 0). Other words are answered `bad words` (2), and a text that is no document by
+/// its first refused line (3). So does `simulate` refuse the first line about clients as
+/// `out of place`, and in other documents the first line with a word that it doesn't run yet as
+/// `unknown line`. Where there is no plan `simulate` and `analyse` answer `too many cases` (7), else
+/// the first conflict of two operations that are declared free (1) or `too hard` (8), whichever comes
+/// first; `check` too answers `too many cases`, and the first line that it refuses (1). A source that
+/// fails is answered `read fault` (4), and more than 4,194,304 bytes `input too long` (6). A sink
+/// that fails is 5, with a front of the text out. Want of memory is 9, and nothing is written.
 pub fn tool<S: Source, K: Sink>(alloc: Global, words: &[String], source: &mut S, sink: &mut K) -> u8
     ensures answered { IsAnswered (map string_bytes words.now)
         (record { before = S.left source.old; after = S.left source.new; faults_before = S.faults source.old; faults_after = S.faults source.new })

@@ -12,7 +12,10 @@ use Rattle.rejection_text.specs.Texts.{rejection_text}
 use Rattle.reservation_plan.specs.Derived.{derived_plan}
 use Rattle.reservation_plan.specs.Ends.{IsRejected, IsTooHard, ends}
 use Rattle.spec_model.specs.Fits.{PlanFits}
+use Rattle.spec_model.specs.Stable.{IsEnough}
 use Rattle.spec_model.specs.declared.spec.Spec.{Spec}
+use Rattle.plan_answers.specs.declared.analysing.Analysis.{Analysis}
+use Rattle.plan_answers.specs.declared.analysing.Analysis.TheVariants.{Planless, Planned}
 use Rattle.plan_answers.specs.Texts.{most_cases, too_many_text}
 use Rattle.reservation_plan.specs.declared.analysed.Analysed.{Analysed}
 
@@ -21,22 +24,25 @@ pub record HasPlan (spec : Spec) : Type 0 where
   pub few : case_count spec ≤ most_cases
   pub goes : find (ends spec) (touched_cases spec) ≡ None
 
--- the derived plan with a certificate that checks
-pub record IsAnalysed (spec : Spec) (analysed : Analysed) : Type 0 where
+-- the derived plan fits it, and this certificate of it checks
+pub record IsCertified (spec : Spec) (certificate : Certificate) : Type 0 where
   pub has : HasPlan spec
+  pub fits : PlanFits spec (derived_plan spec)
+  pub checks : Checks spec (derived_plan spec) certificate
+
+-- the derived plan, which is enough, with such a certificate, neither of them long
+pub record IsAnalysed (spec : Spec) (analysed : Analysed) : Type 0 where
   pub plan : analysed.plan ≡ derived_plan spec
-  pub fits : PlanFits spec analysed.plan
-  pub checks : Checks spec analysed.plan analysed.certificate
+  pub certified : IsCertified spec analysed.certificate
+  pub enough : IsEnough spec analysed.plan
   pub short : AreShort analysed.certificate.lines
   pub few_locks : length analysed.plan.locks ≤ 4096
   pub few_parts : length analysed.plan.parts ≤ 4096
 
--- and their text, whose numbers a check reads
+-- the text of the derived plan and such a certificate, whose numbers a check reads
 pub record IsPlanned (spec : Spec) (text : List ℕ) : Type 0 where
-  pub has : HasPlan spec
   pub certificate : Certificate
-  pub fits : PlanFits spec (derived_plan spec)
-  pub checks : Checks spec (derived_plan spec) certificate
+  pub certified : IsCertified spec certificate
   pub limits : KeepsLimits (derived_plan spec) certificate
   pub written : text ≡ certificate_text spec (derived_plan spec) certificate
 
@@ -63,9 +69,18 @@ pub record IsHard (spec : Spec) (text : List ℕ) : Type 0 where
   pub hard : IsTooHard spec (touched_cases spec) variables
   pub written : text ≡ hard_text variables
 
-abbrev pub IsAnswer : Spec → ℕ → List ℕ → Type 0
-IsAnswer spec status text =
-    ((status ≡ 0) × IsPlanned spec text)
-    ⊎ ((status ≡ 7) × IsTooMany spec text)
+-- what is answered where there is no plan, whichever command wants one
+abbrev pub IsPlanless : Spec → ℕ → List ℕ → Type 0
+IsPlanless spec status text =
+    ((status ≡ 7) × IsTooMany spec text)
     ⊎ ((status ≡ 1) × IsRejection spec text)
     ⊎ ((status ≡ 8) × IsHard spec text)
+
+-- a plan, or the answer where there is none
+abbrev pub IsAnalysis : Spec → Analysis → Type 0
+IsAnalysis spec (Planned analysed) = IsAnalysed spec analysed
+IsAnalysis spec (Planless answer) = IsPlanless spec answer.status answer.text
+
+-- what is answered to one who wants to see the plan
+abbrev pub IsAnswer : Spec → ℕ → List ℕ → Type 0
+IsAnswer spec status text = ((status ≡ 0) × IsPlanned spec text) ⊎ IsPlanless spec status text

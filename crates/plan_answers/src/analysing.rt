@@ -15,6 +15,15 @@ use reservation_plan::{Analysed, DeriveError, derive};
 use spec_model::Spec;
 use std::alloc::Global;
 
+/// What comes of a specification.
+#[derive(Drop)]
+pub enum Analysis {
+    /// The derived plan, with a certificate that checks.
+    Planned(Analysed),
+    /// The answer that says why there is none.
+    Planless(Answer),
+}
+
 /// The plan and its certificate.
 #[tactic(auto, using(crate::proofs::Limits::keeps_limits))]
 fn planned(alloc: Global, spec: &Spec, analysed: &Analysed) -> Result<Answer, NoMemory>
@@ -55,22 +64,34 @@ fn hard(alloc: Global, variables: u32) -> Result<Answer, NoMemory>
     Ok(Answer { status: 8, text })
 }
 
-/// What `analyse` answers to a specification: the derived plan with a certificate that checks (0);
-/// else `too many cases` where there are more than 100,000 (7); else the first conflicting case of
-/// two operations that are declared free (1), or `too hard` at a query of more than 128 variables
-/// (8), whichever comes first.
+/// The plan of a specification, or why it has none: `too many cases` where there are more than
+/// 100,000 (7); else the first conflicting case of two operations that are declared free (1), or
+/// `too hard` at a query of more than 128 variables (8), whichever comes first.
+pub fn analyse(alloc: Global, spec: &Spec) -> Result<Analysis, NoMemory>
+    requires { IsWellFormed spec.now }
+    ensures { IfOk result (λ analysis. analyses.IsAnalysis spec.now analysis) }
+{
+    match derive(alloc, spec) {
+        Ok(analysed) => Ok(Analysis::Planned(analysed)),
+        Err(DeriveError::TooManyCases { count }) => Ok(Analysis::Planless(Answer {
+            status: 7,
+            text: counted(alloc, b"too many cases ", count)?,
+        })),
+        Err(DeriveError::Rejected { case, model }) => {
+            Ok(Analysis::Planless(rejected(alloc, spec, &case, &model)?))
+        }
+        Err(DeriveError::TooHard { variables }) => Ok(Analysis::Planless(hard(alloc, variables)?)),
+        Err(DeriveError::Memory) => Err(NoMemory),
+    }
+}
+
+/// What `analyse` answers to a specification: its plan and the certificate (0), or why it has none.
 pub fn analyse_answer(alloc: Global, spec: &Spec) -> Result<Answer, NoMemory>
     requires { IsWellFormed spec.now }
     ensures { IfOk result (λ a. analyses.IsAnswer spec.now a.status a.text) }
 {
-    match derive(alloc, spec) {
-        Ok(analysed) => planned(alloc, spec, &analysed),
-        Err(DeriveError::TooManyCases { count }) => Ok(Answer {
-            status: 7,
-            text: counted(alloc, b"too many cases ", count)?,
-        }),
-        Err(DeriveError::Rejected { case, model }) => rejected(alloc, spec, &case, &model),
-        Err(DeriveError::TooHard { variables }) => hard(alloc, variables),
-        Err(DeriveError::Memory) => Err(NoMemory),
+    match analyse(alloc, spec)? {
+        Analysis::Planned(analysed) => planned(alloc, spec, &analysed),
+        Analysis::Planless(answer) => Ok(answer),
     }
 }

@@ -8,7 +8,7 @@ mod checking;
 mod laws;
 mod splitting;
 
-pub use analysing::analyse_answer;
+pub use analysing::{Analysis, analyse, analyse_answer};
 pub use answer::Answer;
 pub use checking::check_answer;
 pub use laws::planned_is_checked;

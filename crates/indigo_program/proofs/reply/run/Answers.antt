@@ -1,6 +1,6 @@
 use Rattle.std.proofs.Common.{inl, inr, refl, sym, subst}
 use Rattle.indigo_program.specs.Inputs.{IsOfClients}
-use Rattle.indigo_program.proofs.Runs.{built_lows, built_settled, refused_answer}
+use Rattle.indigo_program.proofs.Runs.{lows_alone, refused_answer}
 use Rattle.indigo_program.proofs.reply.run.Goals as goal
 
 pub returns-in-Some : goal.returns-in-Some
@@ -15,8 +15,5 @@ returns-in-Some-first_of c =
     (inr (inr (record { document = c.args.document; orders = c.in-Schedule.orders; read = c.requires.read; schedule = c.in-Schedule.is; first = sym c.in-Some-first_of.ensures.value; cause_is = refl })))
     c.refused-in-Some-first_of.ensures
 
-pub trace-requires-clause-settled : goal.trace-requires-clause-settled
-trace-requires-clause-settled c = built_settled c.args.document (c.in-None-first_of.ensures.lacking c.args.document c.requires.read refl) c.requires.formed
-
-pub trace-requires-clause-alone : goal.trace-requires-clause-alone
-trace-requires-clause-alone c = built_lows c.args.document (c.in-None-first_of.ensures.lacking c.args.document c.requires.read refl)
+pub run_by_plan-requires-clause-alone : goal.run_by_plan-requires-clause-alone
+run_by_plan-requires-clause-alone c = lows_alone c.args.document (c.in-None-first_of.ensures.lacking c.args.document c.requires.read refl)

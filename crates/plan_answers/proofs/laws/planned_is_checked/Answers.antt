@@ -6,9 +6,9 @@ use Rattle.plan_answers.proofs.laws.planned_is_checked.Goals as goal
 
 pub returns : goal.returns
 returns c spec text formed names planned = record {
-  few = planned.has.few;
+  few = planned.certified.has.few;
   plan = derived_plan spec;
   certificate = planned.certificate;
-  read = ap (λ t. read_of spec (lines_of t)) planned.written ∙ c.text_is_read_again.ensures spec (derived_plan spec) planned.certificate planned.fits formed names planned.limits;
-  checks = planned.checks;
+  read = ap (λ t. read_of spec (lines_of t)) planned.written ∙ c.text_is_read_again.ensures spec (derived_plan spec) planned.certificate planned.certified.fits formed names planned.limits;
+  checks = planned.certified.checks;
 }
