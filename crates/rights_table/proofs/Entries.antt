@@ -65,9 +65,9 @@ place_within (e ∷ es) r (suc at) place = let rest = place_within es r at place
 pub entry_at : (es : List Entry) (r : Right) (at : ℕ) (e : Entry) → IsPlace es r at → e ≡ get_or es at e → (e.right ≡ r) × (entry_of es r ≡ Some e.holding)
 entry_at [] r at e place is = absurd place
 entry_at (f ∷ es) r zero e place is = (
-      same_is e.right r (ap (λ (x : Entry). same_right x.right r) is ∙ place),
-      cond-true (same_right f.right r) (Some f.holding) (entry_of es r) place ∙ ap (λ (x : Entry). Some x.holding) (sym is),
-    )
+  same_is e.right r (ap (λ (x : Entry). same_right x.right r) is ∙ place),
+  cond-true (same_right f.right r) (Some f.holding) (entry_of es r) place ∙ ap (λ (x : Entry). Some x.holding) (sym is),
+)
 entry_at (f ∷ es) r (suc at) e place is =
     let rest = entry_at es r at e place.1 is in
     (rest.0, cond-false (same_right f.right r) (Some f.holding) (entry_of es r) place.0 ∙ rest.1)

@@ -8,9 +8,9 @@ use Rattle.spec_model.specs.declared.operation.Line.{Line}
 use Rattle.spec_model.specs.declared.right.Right.{Right}
 use Rattle.spec_model.specs.declared.right.Right.TheVariants as right
 use Rattle.spec_model.specs.Universe.{lower_bound, upper_bound}
-use Rattle.spec_model.specs.Changes.{line_adds, line_subtracts, effect_lines, added, subtracted}
+use Rattle.spec_model.specs.Changes.{line_adds, line_subtracts, effect_lines}
 use Rattle.spec_model.specs.Needs.{spends, creates}
-use Rattle.rights_table.specs.Cells.{all_gain, all_lose, line_gains, line_loses}
+use Rattle.rights_table.specs.Cells.{all_gain, all_lose}
 
 -- the sum with one more
 pub sum_more : (f : Line → ℕ) (lines : List Line) (k : ℕ) (l : Line) → k < length lines → l ≡ get_or lines k l → sum_by f (take (k + 1) lines) ≡ sum_by f (take k lines) + f l
@@ -55,9 +55,10 @@ by_bound b up down lines =
     let u = sum_tested b up lines in
     let d = sum_tested b down lines in
     let s = where_some b (sum_by down lines) (sum_by up lines) in
-    let c = where_some b (sum_by up lines) (sum_by down lines) in
-    (s ∙ ap (λ n. n - cond b (sum_by up lines) 0) (sym d) ∙ ap (λ n. sum_by (λ l. cond b (down l) 0) lines - n) (sym u),
-        c ∙ ap (λ n. n - cond b (sum_by down lines) 0) (sym u) ∙ ap (λ n. sum_by (λ l. cond b (up l) 0) lines - n) (sym d))
+    let c = where_some b (sum_by up lines) (sum_by down lines) in (
+      s ∙ ap (λ n. n - cond b (sum_by up lines) 0) (sym d) ∙ ap (λ n. sum_by (λ l. cond b (down l) 0) lines - n) (sym u),
+      c ∙ ap (λ n. n - cond b (sum_by down lines) 0) (sym u) ∙ ap (λ n. sum_by (λ l. cond b (up l) 0) lines - n) (sym d),
+    )
 
 pub nets : (spec : Spec) (inst : Inst) (r : Right) → Nets spec inst r
 nets spec inst (right.Low cell) =
