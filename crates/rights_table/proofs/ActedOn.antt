@@ -1,20 +1,18 @@
 -- The right that an act acts on.
-use Rattle.std.proofs.Common.{◌≡◌, ℕ, Bool, true, false, cond, List, [], ◌∷◌, map, refl, sym, ap, ◌∙◌, subst, inl, inr, arith, eqb-true, ◌+◌}
-use Rattle.std.specs.Prelude.{Option, Some, None, ◌&&◌, ◌||◌, ◌==◌}
+use Rattle.std.proofs.Common.{◌≡◌, ℕ, Bool, true, false, cond, List, [], ◌∷◌, map, refl, sym, ap, ◌∙◌, subst, inl, inr, arith, eqb-true}
+use Rattle.std.specs.Prelude.{Option, Some, ◌&&◌, ◌==◌}
 use Rattle.std.proofs.lemmas.Bool.{cases_Bool, cond-true, cond-false}
 use Rattle.std.specs.List.{find}
-use Rattle.std.specs.Option.{option_map, option_map_or}
-use Rattle.ind_base.specs.declared.span.Span.{Span}
+use Rattle.std.specs.Option.{option_map_or}
 use Rattle.spec_model.specs.declared.plan.Setup.{Setup}
 use Rattle.spec_model.specs.declared.right.Right.{Right}
 use Rattle.spec_model.specs.declared.right.Right.TheVariants as right
 use Rattle.spec_model.specs.declared.right.Need.{Need}
-use Rattle.spec_model.specs.declared.right.Amount.{Amount}
 use Rattle.spec_model.specs.declared.right.Amount.TheVariants as amount
 use Rattle.spec_model.specs.declared.right.Level.{Level}
 use Rattle.spec_model.specs.declared.right.Level.TheVariants as level
 use Rattle.run_model.specs.Rights.{same_right, is_shared}
-use Rattle.run_model.specs.Levels.{permits, is_permitted, at_literal, acts_on, is_at, forbid_at, same_level}
+use Rattle.run_model.specs.Levels.{permits, is_permitted, at_literal, is_at, forbid_at, same_level}
 use Rattle.spec_model.specs.declared.right.Mode.{Mode}
 use Rattle.spec_model.specs.declared.right.Mode.TheVariants as mode
 use Rattle.spec_model.specs.declared.right.Held.TheVariants as held

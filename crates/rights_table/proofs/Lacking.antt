@@ -1,6 +1,6 @@
 -- A table lacks what its replica lacks.
-use Rattle.std.proofs.Common.{◌≡◌, ℕ, Bool, true, false, cond, List, [], ◌∷◌, map, refl, sym, ap, ◌∙◌}
-use Rattle.std.specs.Prelude.{Option, Some, None, ◌||◌}
+use Rattle.std.proofs.Common.{◌≡◌, ℕ, true, false, cond, List, [], ◌∷◌, map, refl, ap, ◌∙◌}
+use Rattle.std.specs.Prelude.{Option, Some, ◌||◌}
 use Rattle.std.specs.List.{AllByRecursion, list_any}
 use Rattle.spec_model.specs.declared.plan.Setup.{Setup}
 use Rattle.spec_model.specs.declared.right.Right.{Right}
@@ -13,7 +13,7 @@ use Rattle.spec_model.specs.declared.right.Lacking.{Lacking}
 use Rattle.spec_model.specs.declared.log.LogItem.{LogItem}
 use Rattle.run_model.specs.Logs.{Logs}
 use Rattle.run_model.specs.Holding.{held_of, span_in}
-use Rattle.run_model.specs.Levels.{permits, is_permitted, is_met, first_lacking, choices, choices_of, forbid_at, at_literal}
+use Rattle.run_model.specs.Levels.{permits, is_permitted, is_met, first_lacking, choices_of, forbid_at, at_literal}
 use Rattle.rights_table.specs.declared.table.Table.{Table}
 use Rattle.rights_table.specs.Parts.{is_part, SpeaksOfNone}
 use Rattle.rights_table.specs.Lacks.{lacking_of, Tells}

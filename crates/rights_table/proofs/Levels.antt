@@ -1,6 +1,6 @@
 -- Acting by one need after another.
 use Rattle.std.proofs.Common.{◌≡◌, ℕ, zero, suc, ◌+◌, ◌<◌, Bool, true, false, cond, List, [], ◌∷◌, length, get_or, take, drop, refl, sym, ap, ◌∙◌, subst, arith}
-use Rattle.std.specs.Prelude.{Option, Some, None, ◌&&◌, ◌||◌, ◌==◌, nat_lt}
+use Rattle.std.specs.Prelude.{◌&&◌, ◌||◌, ◌==◌, nat_lt}
 use Rattle.std.specs.List.{list_any, find, AllByRecursion}
 use Rattle.std.specs.Option.{option_map_or}
 use Rattle.std.proofs.Math.Path.{fun_ext}
@@ -18,7 +18,7 @@ use Rattle.run_model.specs.Levels.{permits, is_permitted, mode_permits, acts_on,
 use Rattle.run_model.specs.Holding.{mode_set as modes_set}
 use Rattle.multilevel_locks.specs.Shares.{mode_set}
 use Rattle.rights_table.specs.declared.table.Table.{Table}
-use Rattle.rights_table.specs.Tables.{count_in, mode_in, IsEntered}
+use Rattle.rights_table.specs.Tables.{count_in, mode_in}
 use Rattle.rights_table.specs.Acting.{ActsBy, SetsModes, shares_in}
 
 -- ---- what is permitted stays permitted

@@ -1,7 +1,7 @@
 -- An act in the own log.
 use Rattle.std.proofs.Common.{◌≡◌, ℕ, ◌+◌, Bool, true, false, cond, List, [], ◌∷◌, ◌++◌, map, refl, sym, ap, ◌∙◌, subst, arith}
 use Rattle.std.specs.Prelude.{Option, Some, None, ◌||◌, ◌&&◌, ◌==◌, nat_lt}
-use Rattle.std.specs.List.{AllByRecursion, list_any, find}
+use Rattle.std.specs.List.{find}
 use Rattle.std.specs.Option.{option_map_or}
 use Rattle.std.proofs.Math.Path.{fun_ext}
 use Rattle.spec_model.specs.declared.plan.Setup.{Setup}
@@ -20,11 +20,11 @@ use Rattle.spec_model.specs.Needs.{spends, creates}
 use Rattle.run_model.specs.Logs.{Logs}
 use Rattle.run_model.specs.Rights.{is_shared, held_count, body_gains, body_loses}
 use Rattle.run_model.specs.Holding.{mode_of, next_mode, needs_in, shares_of, mode_set as modes_set}
-use Rattle.run_model.specs.Levels.{is_permitted, mode_permits, acts_on, acts_at, is_at, choices, choices_of, forbid_at}
+use Rattle.run_model.specs.Levels.{is_permitted, mode_permits, acts_on, acts_at, is_at, choices_of, forbid_at}
 use Rattle.rights_table.specs.declared.table.Table.{Table}
 use Rattle.rights_table.specs.Tables.{IsTable, count_in, mode_in}
 use Rattle.rights_table.specs.Cells.{MovesBy}
-use Rattle.rights_table.specs.Acting.{SetsModes, IsOnShares, AreOnShares, shares_in}
+use Rattle.rights_table.specs.Acting.{SetsModes, IsOnShares, AreOnShares}
 use Rattle.rights_table.proofs.ActedOn.{literal_shared}
 use Rattle.rights_table.proofs.Stepped.{table_step}
 

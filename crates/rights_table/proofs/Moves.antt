@@ -1,18 +1,16 @@
 -- Counts that change.
-use Rattle.std.proofs.Common.{◌≡◌, ℕ, ◌+◌, ◌-◌, ◌≤◌, ◌<◌, ◌^◌, Bool, true, false, cond, refl, sym, ap, ◌∙◌, subst, arith}
-use Rattle.std.specs.Prelude.{Option, Some, nat_le}
+use Rattle.std.proofs.Common.{◌≡◌, ℕ, ◌+◌, ◌≤◌, Bool, true, false, cond, refl, sym, ◌∙◌, arith}
 use Rattle.spec_model.specs.declared.plan.Setup.{Setup}
 use Rattle.spec_model.specs.declared.right.Mode.TheVariants as mode
 use Rattle.spec_model.specs.declared.right.Right.{Right}
 use Rattle.spec_model.specs.declared.right.Right.TheVariants as right
 use Rattle.spec_model.specs.declared.right.WantAsk.TheVariants as asked
-use Rattle.escrow_rights.specs.declared.escrow.Escrow.{Escrow}
 use Rattle.run_model.specs.Rights.{same_right, is_escrow}
 use Rattle.rights_table.specs.declared.holding.Holding.{Holding}
 use Rattle.rights_table.specs.declared.holding.Holding.TheVariants as holding
 use Rattle.rights_table.specs.declared.table.Table.{Table}
 use Rattle.rights_table.specs.Holdings.{count_of, mode_of, is_of, is_count, spent, permits}
-use Rattle.rights_table.specs.Tables.{entered, count_in, mode_in, Becomes}
+use Rattle.rights_table.specs.Tables.{Becomes}
 use Rattle.rights_table.specs.Cells.{MovesBy, of_right}
 use Rattle.rights_table.proofs.Stepped.{count_by, mode_stays}
 use Rattle.rights_table.proofs.Pieces.{becomes_kept}

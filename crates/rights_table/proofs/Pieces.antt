@@ -1,6 +1,6 @@
 -- Pieces that are given and accepted, by the holding of their right.
-use Rattle.std.proofs.Common.{◌≡◌, ◌≢◌, inl, inr, ℕ, ◌+◌, ◌≤◌, ◌<◌, ◌^◌, Bool, true, false, cond, List, [], ◌∷◌, ◌++◌, refl, sym, ap, ◌∙◌, subst, arith, eqb-true}
-use Rattle.std.specs.Prelude.{Option, Some, None, nat_le, ◌==◌, ◌||◌, ◌&&◌}
+use Rattle.std.proofs.Common.{◌≡◌, inl, inr, ℕ, ◌+◌, ◌≤◌, ◌^◌, Bool, true, false, cond, List, [], ◌∷◌, ◌++◌, refl, sym, ap, ◌∙◌, subst, arith, eqb-true}
+use Rattle.std.specs.Prelude.{Option, Some, nat_le, ◌==◌, ◌||◌}
 use Rattle.std.specs.Option.{option_map_or}
 use Rattle.std.proofs.lemmas.Bool.{cases_Bool, cond-true, cond-false, and_parts}
 use Rattle.spec_model.specs.declared.plan.Setup.{Setup}
@@ -25,7 +25,7 @@ use Rattle.rights_table.specs.Passing.{can_accept, same_mode}
 use Rattle.rights_table.specs.Tables.{entered, count_in, mode_in, IsTable, Becomes}
 use Rattle.rights_table.proofs.Same.{same_is}
 use Rattle.rights_table.proofs.Telling.{count_entered, mode_entered}
-use Rattle.rights_table.proofs.Stepped.{StepsBy, table_step, count_by, mode_stays, mode_becomes}
+use Rattle.rights_table.proofs.Stepped.{table_step, count_by, mode_stays, mode_becomes}
 
 -- a piece of what is told may be given
 pub held_may : (h : Holding) (p : Piece) → IsHeldPiece (told h) p → MayGive h p × (size p ≤ count_of h)

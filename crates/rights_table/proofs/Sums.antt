@@ -8,9 +8,9 @@ use Rattle.spec_model.specs.declared.operation.Line.{Line}
 use Rattle.spec_model.specs.declared.right.Right.{Right}
 use Rattle.spec_model.specs.declared.right.Right.TheVariants as right
 use Rattle.spec_model.specs.Universe.{lower_bound, upper_bound}
-use Rattle.spec_model.specs.Changes.{line_adds, line_subtracts, effect_lines, added, subtracted}
+use Rattle.spec_model.specs.Changes.{line_adds, line_subtracts, effect_lines}
 use Rattle.spec_model.specs.Needs.{spends, creates}
-use Rattle.rights_table.specs.Cells.{all_gain, all_lose, line_gains, line_loses}
+use Rattle.rights_table.specs.Cells.{all_gain, all_lose}
 
 -- the sum with one more
 pub sum_more : (f : Line → ℕ) (lines : List Line) (k : ℕ) (l : Line) → k < length lines → l ≡ get_or lines k l → sum_by f (take (k + 1) lines) ≡ sum_by f (take k lines) + f l

@@ -1,5 +1,5 @@
 -- Acting at levels: what the needs of an act do to the modes of a table.
-use Rattle.std.specs.Prelude.{◌≡◌, true, false, ℕ, List, Bool, ◌==◌, ◌&&◌, if◌then◌else◌, Option}
+use Rattle.std.specs.Prelude.{◌≡◌, true, false, List, Bool, ◌==◌, ◌&&◌, if◌then◌else◌, Option}
 use Rattle.std.specs.List.{AllByRecursion}
 use Rattle.std.specs.Option.{option_map_or}
 use Rattle.spec_model.specs.declared.plan.Setup.{Setup}
@@ -10,7 +10,7 @@ use Rattle.spec_model.specs.declared.right.Level.{Level}
 use Rattle.spec_model.specs.declared.right.Amount.{Amount}
 use Rattle.spec_model.specs.declared.right.Amount.TheVariants as amount
 use Rattle.run_model.specs.Rights.{same_right, is_shared}
-use Rattle.run_model.specs.Levels.{acts_at, acts_on, is_permitted}
+use Rattle.run_model.specs.Levels.{acts_at}
 use Rattle.run_model.specs.Holding.{shares_of, mode_set as modes_set}
 use Rattle.multilevel_locks.specs.Shares.{mode_set}
 use Rattle.rights_table.specs.declared.table.Table.{Table}

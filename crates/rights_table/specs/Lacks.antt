@@ -1,8 +1,7 @@
 -- Needs that aren't met, and that a table tells what is held.
-use Rattle.std.specs.Prelude.{◌≡◌, true, false, ℕ, Bool, List}
+use Rattle.std.specs.Prelude.{◌≡◌, true, ℕ, List}
 use Rattle.std.specs.List.{AllByRecursion}
 use Rattle.spec_model.specs.declared.plan.Setup.{Setup}
-use Rattle.spec_model.specs.declared.right.Right.{Right}
 use Rattle.spec_model.specs.declared.right.Need.{Need}
 use Rattle.spec_model.specs.declared.right.Held.{Held}
 use Rattle.spec_model.specs.declared.right.Lacking.{Lacking}
@@ -11,7 +10,7 @@ use Rattle.run_model.specs.Logs.{Logs}
 use Rattle.run_model.specs.Holding.{held_of}
 use Rattle.run_model.specs.Levels.{first_lacking, is_met}
 use Rattle.rights_table.specs.declared.table.Table.{Table}
-use Rattle.rights_table.specs.Parts.{is_part, SpeaksOfNone}
+use Rattle.rights_table.specs.Parts.{SpeaksOfNone}
 use Rattle.rights_table.specs.Tables.{IsTable, holding_in}
 
 -- a need with what is held of it

@@ -1,5 +1,5 @@
 -- A table of rights: what a replica holds of each after the items of its own log.
-use Rattle.std.specs.Prelude.{◌≡◌, true, ℕ, ◌+◌, ◌≤◌, List, [], Bool, if◌then◌else◌, Option, Some, None, sum_by}
+use Rattle.std.specs.Prelude.{◌≡◌, true, ℕ, ◌+◌, ◌≤◌, List, Bool, if◌then◌else◌, Option, Some, None, sum_by}
 use Rattle.std.specs.Option.{option_map_or}
 use Rattle.ind_base.specs.declared.span.Span.{Span}
 use Rattle.spec_model.specs.declared.plan.Setup.{Setup}

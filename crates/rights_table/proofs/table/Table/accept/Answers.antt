@@ -1,4 +1,4 @@
-use Rattle.std.proofs.Common.{◌≡◌, true, sym, subst, ◌∙◌}
+use Rattle.std.proofs.Common.{◌≡◌, true, sym, subst}
 use Rattle.spec_model.specs.declared.right.Held.{Held}
 use Rattle.run_model.specs.Allowed.{span_given}
 use Rattle.rights_table.specs.Passing.{can_accept}

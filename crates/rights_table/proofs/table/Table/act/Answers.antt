@@ -1,4 +1,4 @@
-use Rattle.std.proofs.Common.{◌≡◌, ◌+◌, ◌<◌, ◌≤◌, ◌^◌, arith}
+use Rattle.std.proofs.Common.{arith}
 use Rattle.rights_table.proofs.Logged.{acted}
 use Rattle.rights_table.proofs.table.Table.act.Goals as goal
 

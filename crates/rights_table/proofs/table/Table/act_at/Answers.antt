@@ -1,9 +1,6 @@
-use Rattle.std.proofs.Common.{◌≡◌, true, sym, subst, ◌∙◌}
-use Rattle.spec_model.specs.declared.right.WantAsk.TheVariants as asked
+use Rattle.std.proofs.Common.{subst}
 use Rattle.rights_table.specs.declared.holding.Holding.{Holding}
-use Rattle.rights_table.specs.Holdings.{spent}
-use Rattle.rights_table.specs.Tables.{Becomes, entered}
-use Rattle.std.specs.Prelude.{Some}
+use Rattle.rights_table.specs.Tables.{Becomes}
 use Rattle.rights_table.proofs.Entries.{kind_entered}
 use Rattle.rights_table.proofs.ActedOn.{IsSharesOf, shares_of_kind, shares_permit, acts_one}
 use Rattle.rights_table.proofs.table.Table.act_at.Goals as goal

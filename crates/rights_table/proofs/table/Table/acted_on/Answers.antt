@@ -1,7 +1,6 @@
-use Rattle.std.proofs.Common.{◌≡◌, false, sym, ap, subst, ◌∙◌}
+use Rattle.std.proofs.Common.{◌≡◌, false, sym, subst, ◌∙◌}
 use Rattle.std.specs.Option.{option_map_or}
 use Rattle.std.specs.List.{find}
-use Rattle.std.proofs.Common.{map}
 use Rattle.spec_model.specs.declared.right.Amount.{Amount}
 use Rattle.run_model.specs.Levels.{is_permitted, choices_of, is_at}
 use Rattle.rights_table.specs.Acting.{shares_in}

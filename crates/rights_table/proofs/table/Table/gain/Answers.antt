@@ -1,4 +1,4 @@
-use Rattle.std.proofs.Common.{◌≡◌, ◌+◌, ◌<◌, ◌^◌, arith}
+use Rattle.std.proofs.Common.{arith}
 use Rattle.rights_table.specs.declared.holding.Holding.{Holding}
 use Rattle.rights_table.specs.Tables.{Becomes}
 use Rattle.rights_table.proofs.Entries.{kind_entered}

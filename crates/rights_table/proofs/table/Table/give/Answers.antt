@@ -1,4 +1,4 @@
-use Rattle.std.proofs.Common.{◌≡◌, sym, subst}
+use Rattle.std.proofs.Common.{sym, subst}
 use Rattle.spec_model.specs.declared.right.Held.{Held}
 use Rattle.run_model.specs.Allowed.{IsHeldPiece, span_given}
 use Rattle.rights_table.proofs.Entries.{kind_entered}

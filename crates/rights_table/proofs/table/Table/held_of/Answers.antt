@@ -1,9 +1,7 @@
-use Rattle.std.proofs.Common.{◌≡◌, ◌<◌, List, length, get_or, ap, ◌∙◌, arith}
-use Rattle.std.specs.Prelude.{Some}
+use Rattle.std.proofs.Common.{◌≡◌, ◌<◌, List, length, ◌∙◌, arith}
 use Rattle.spec_model.specs.declared.right.Right.{Right}
 use Rattle.rights_table.specs.declared.entry.Entry.{Entry}
 use Rattle.rights_table.specs.Holdings.{is_of}
-use Rattle.rights_table.specs.Entries.{entry_of}
 use Rattle.rights_table.proofs.Entries.{place_within, entry_at, kind_at}
 use Rattle.rights_table.proofs.Telling.{told_held}
 use Rattle.std.proofs.Common.{true, subst}

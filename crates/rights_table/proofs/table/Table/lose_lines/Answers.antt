@@ -1,4 +1,4 @@
-use Rattle.std.proofs.Common.{◌≡◌, ◌+◌, ◌<◌, ◌≤◌, ℕ, List, length, take, sym, ◌∙◌, arith}
+use Rattle.std.proofs.Common.{◌+◌, ◌<◌, List, length, take, arith}
 use Rattle.std.specs.Prelude.{sum_by}
 use Rattle.spec_model.specs.declared.operation.Line.{Line}
 use Rattle.rights_table.specs.Cells.{line_loses, line_moves}

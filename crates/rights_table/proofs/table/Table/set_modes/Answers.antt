@@ -1,9 +1,8 @@
-use Rattle.std.proofs.Common.{◌≡◌, Bool, sym, ◌∙◌}
+use Rattle.std.proofs.Common.{Bool, sym, ◌∙◌}
 use Rattle.spec_model.specs.declared.plan.Setup.{Setup}
 use Rattle.spec_model.specs.declared.right.Right.{Right}
 use Rattle.spec_model.specs.declared.right.Level.TheVariants as level
 use Rattle.run_model.specs.Levels.{acts_at}
-use Rattle.rights_table.specs.declared.table.Table.{Table}
 use Rattle.rights_table.specs.Acting.{shares_in}
 use Rattle.rights_table.proofs.Levels.{acts_still, sets_modes}
 use Rattle.rights_table.proofs.table.Table.set_modes.Goals as goal
