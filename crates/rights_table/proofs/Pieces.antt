@@ -21,7 +21,7 @@ use Rattle.rights_table.specs.declared.holding.Holding.{Holding}
 use Rattle.rights_table.specs.declared.holding.Holding.TheVariants as holding
 use Rattle.rights_table.specs.declared.table.Table.{Table}
 use Rattle.rights_table.specs.Holdings.{count_of, mode_of, told, size, is_of, MayGive, MayAccept, Given, Accepted}
-use Rattle.rights_table.specs.Passing.{can_accept, same_mode}
+use Rattle.run_model.specs.Passing.{can_accept, same_mode}
 use Rattle.rights_table.specs.Tables.{entered, count_in, mode_in, IsTable, Becomes}
 use Rattle.rights_table.proofs.Same.{same_is}
 use Rattle.rights_table.proofs.Telling.{count_entered, mode_entered}

@@ -8,7 +8,7 @@ ghost use Rattle.spec_model.specs.declared.right.Right.{Right as RightOf};
 ghost use Rattle.run_model.specs.Allowed.{IsHeldPiece, span_given};
 ghost use Rattle.run_model.specs.Logs.{Logs as AllLogs, item_at};
 ghost use Rattle.rights_table.specs.Parts.{is_part};
-ghost use Rattle.rights_table.specs.Passing as passing;
+ghost use Rattle.run_model.specs.Passing as passing;
 
 use crate::step::Step;
 use crate::table::Table;
@@ -50,6 +50,7 @@ fn joins(all: u32, held: &Held, piece: &Piece) -> bool
             u64::from(*shares) + u64::from(*more) <= u64::from(all)
                 && (*shares == 0 || same_mode(*given, *mode))
         }
+        (Held::Points { run, .. }, Piece::Points(_)) => run.is_none(),
         _ => false,
     }
 }

@@ -1,7 +1,7 @@
 use Rattle.std.proofs.Common.{◌≡◌, true, sym, subst}
 use Rattle.spec_model.specs.declared.right.Held.{Held}
 use Rattle.run_model.specs.Allowed.{span_given}
-use Rattle.rights_table.specs.Passing.{can_accept}
+use Rattle.run_model.specs.Passing.{can_accept}
 use Rattle.rights_table.specs.Holdings.{told}
 use Rattle.rights_table.proofs.Entries.{kind_entered}
 use Rattle.rights_table.proofs.Telling.{told_held}
