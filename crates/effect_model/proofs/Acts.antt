@@ -13,11 +13,15 @@ use Rattle.effect_model.specs.Touching.{AreSmall}
 use Rattle.effect_model.proofs.Sums.{ops_small}
 use Rattle.effect_model.proofs.Turning.{lines_are}
 
+-- what isn't there is read as what stands for it
+pub none_there : {X : Type 0} (xs : List X) (i : ℕ) (d : X) → slice_get xs i ≡ None → get_or xs i d ≡ d
+none_there [] i d none = refl
+none_there (x ∷ xs) zero d none = absurd cc
+none_there (x ∷ xs) (suc i) d none = none_there xs i d none
+
 -- an operation that isn't declared has no lines
 pub no_lines : (ops : List Op) (i : ℕ) → slice_get ops i ≡ None → [] ≡ (get_or ops i no_op).lines
-no_lines [] i none = refl
-no_lines (o ∷ ops) zero none = absurd cc
-no_lines (o ∷ ops) (suc i) none = no_lines ops i none
+no_lines ops i none = sym (ap (λ (op : Op). op.lines) (none_there ops i no_op none))
 
 -- the lines are those that the effect is made of
 effect_is : (spec : Spec) (inst : Inst) (lines : List Line) → lines ≡ (op_at spec inst.op).lines → lines ≡ effect_lines spec inst

@@ -18,3 +18,12 @@ pub mod Standing
 pub mod Blocked
 pub mod Filled
 pub mod Fitted
+pub mod Masked
+pub mod Reserved
+pub mod Plainly
+pub mod Members
+pub mod Named
+pub mod Owned
+pub mod Keyed
+pub mod Ranging
+pub mod Ordered

@@ -96,13 +96,15 @@ literals_miss spec inst front xs (l ∷ ls) e =
     let rest = literals_miss spec inst front xs ls (either_right (literal_may inst (op_at spec inst.op).lines front l) (list_any (literal_may inst (op_at spec inst.op).lines front) ls) e) in
     rw (here, rest) refl
 
-clause_misses : (spec : Spec) (inst : Inst) (s : Truths) (c : Clause) (front xs : List ℕ) → clause_may inst (op_at spec inst.op).lines front c ≡ false → breaks_at spec inst s c (front ++ xs) ≡ false
-clause_misses spec inst s c front xs e =
+pub clause_unset : (spec : Spec) (inst : Inst) (c : Clause) (front xs : List ℕ) → clause_may inst (op_at spec inst.op).lines front c ≡ false → list_any (λ l. literal_set spec inst (front ++ xs) l.literal) (literals c) ≡ false
+clause_unset spec inst c front xs e =
     let may = literal_may inst (op_at spec inst.op).lines front in
     let premise = literals_miss spec inst front xs c.premise (either_left (list_any may c.premise) (list_any may c.conclusion) e) in
     let conclusion = literals_miss spec inst front xs c.conclusion (either_right (list_any may c.premise) (list_any may c.conclusion) e) in
-    let unset : list_any (λ l. literal_set spec inst (front ++ xs) l.literal) (literals c) ≡ false = any_sides (λ l. literal_set spec inst (front ++ xs) l.literal) c ∙ rw (premise, conclusion) refl in
-    ap (λ b. b && not (instance_true (laid_over spec inst s) (front ++ xs) c)) unset
+    any_sides (λ l. literal_set spec inst (front ++ xs) l.literal) c ∙ rw (premise, conclusion) refl
+
+clause_misses : (spec : Spec) (inst : Inst) (s : Truths) (c : Clause) (front xs : List ℕ) → clause_may inst (op_at spec inst.op).lines front c ≡ false → breaks_at spec inst s c (front ++ xs) ≡ false
+clause_misses spec inst s c front xs e = ap (λ b. b && not (instance_true (laid_over spec inst s) (front ++ xs) c)) (clause_unset spec inst c front xs e)
 
 find_none : (p : List ℕ → Bool) (f : List ℕ → List ℕ) (ts : List (List ℕ)) → ((xs : List ℕ) → p (f xs) ≡ false) → find p (map f ts) ≡ None
 find_none p f [] none = refl

@@ -12,3 +12,6 @@ pub mod Contents
 pub mod Firsts
 pub mod Fitting
 pub mod Laying
+pub mod Masking
+pub mod Plain
+pub mod Rights

@@ -19,14 +19,14 @@ use spec_model::{Atom, Broken, Clause, Inst, Literal, Spec, Var};
 use std::alloc::Global;
 
 /// The element of a variable.
-fn element(xs: &[u32], var: u32) -> u32
+pub(crate) fn element(xs: &[u32], var: u32) -> u32
     ensures { result ≡ get_or xs.now var 0 }
 {
     xs.get(var as usize).copied().unwrap_or(0)
 }
 
 /// The elements of these variables.
-fn values(xs: &[u32], vars: &Args) -> Args
+pub(crate) fn values(xs: &[u32], vars: &Args) -> Args
     ensures { result ≡ truths.values xs.now vars.now }
 {
     let mut out = Args::new();
@@ -160,7 +160,7 @@ fn find_broken<T: Truth>(
 }
 
 /// How many elements each variable ranges over.
-fn var_sizes(spec: &Spec, vars: &[Var]) -> Args
+pub(crate) fn var_sizes(spec: &Spec, vars: &[Var]) -> Args
     requires { length vars.now ≤ 4 }
     ensures { result ≡ universe.sizes_of spec.now (map (λ v. v.sort) vars.now) }
 {

@@ -30,7 +30,7 @@ struct Setting<'a> {
 impl Listing for Setting<'_> {
     type Item = AtomChange;
 
-    ghost fits = { λ s. Unit {0} };
+    ghost fits = { λ s xs. Unit {0} };
 
     ghost listed = { λ s xs. atoms_set_by s.inst.now s.lines.now s.pred xs };
 
@@ -70,7 +70,7 @@ struct Changing<'a> {
 impl Listing for Changing<'_> {
     type Item = CellChange;
 
-    ghost fits = { λ s. AreSmall s.lines.now };
+    ghost fits = { λ s xs. AreSmall s.lines.now };
 
     ghost listed = { λ s xs. cells_changed_by s.inst.now s.lines.now s.num xs };
 

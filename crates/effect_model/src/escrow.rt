@@ -51,7 +51,7 @@ impl Listing for Needing<'_> {
 
     type Item = Need;
 
-    ghost fits = { λ s. AreSmall s.lines.now };
+    ghost fits = { λ s xs. AreSmall s.lines.now };
 
     ghost listed = { λ s xs. turns.cell_needs s.inst.now s.lines.now s.low s.high (record { num = s.num; args = xs }) };
 

@@ -53,3 +53,19 @@ impl<T: Truth> Laid<'_, T> {
         }
     }
 }
+
+/// Truths for a call that asks for none.
+#[derive(Drop)]
+pub(crate) struct Unasked;
+
+impl Truth for Unasked {
+    ghost use Rattle.std.specs.Prelude.{true};
+
+    ghost knows = { λ s atom. Unit {0} };
+
+    ghost truths = { λ s p xs. true };
+
+    fn truth(&self, _atom: &Atom) -> bool {
+        true
+    }
+}

@@ -2,6 +2,7 @@
 
 ghost use Rattle.std.specs.Prelude.{◌≡◌, ◌≤◌, ◌+◌, ◌++◌, [], false, length, List as Numbers, ℕ, OnOk};
 ghost use Rattle.std.specs.List.{flat_map};
+ghost use Rattle.spec_model.specs.Truths.{Within};
 ghost use Rattle.spec_model.specs.Universe.{tuples};
 
 use ind_base::{Args, List, NoMemory};
@@ -10,7 +11,7 @@ use ind_base::{Args, List, NoMemory};
 pub(crate) trait Listing {
     type Item: Drop;
 
-    ghost fits: { Self → Type 0 };
+    ghost fits: { Self → Numbers ℕ → Type 0 };
 
     ghost listed: { Self → Numbers ℕ → Numbers Self.Item };
 
@@ -20,7 +21,7 @@ pub(crate) trait Listing {
 
     /// Appends what is listed of one tuple.
     fn list(&self, args: &Args, out: &mut List<Self::Item>) -> Result<(), NoMemory>
-        requires { fits self.now }
+        requires { fits self.now args.now }
         ensures { OnOk result (out.new ≡ out.old ++ listed self.now args.now) };
 }
 
@@ -31,7 +32,7 @@ pub(crate) fn walk<L: Listing>(
     sizes: &[u32],
     out: &mut List<L::Item>,
 ) -> Result<(), NoMemory>
-    requires fits { L.fits listing.now }
+    requires fits { (behind : Numbers ℕ) → Within (λ s. s) sizes.now behind → L.fits listing.now (front ++ behind) }
     requires few { length front + length sizes.now ≤ 4 }
     ensures { OnOk result (out.new ≡ out.old ++ flat_map (λ behind. L.listed listing.now (front ++ behind)) (tuples sizes.now)) }
 {
