@@ -17,7 +17,7 @@ with_holding e h = record { right = e.right; holding = h }
 
 -- ---- tests
 
-no_some : (h : Holding) → ◌≡◌ {A = Option Holding} (Some h) None → ⊥
+pub no_some : (h : Holding) → ◌≡◌ {A = Option Holding} (Some h) None → ⊥
 no_some h e = absurd cc
 
 clash : (b : Bool) → b ≡ true → b ≡ false → ⊥

@@ -12,3 +12,13 @@ pub mod Moves
 pub mod Lines
 pub mod Sums
 pub mod Logged
+pub mod Partless
+pub mod Touched
+pub mod Others
+pub mod Few
+pub mod Learned
+pub mod Shows
+pub mod Making
+pub mod Named
+pub mod Owned
+pub mod Growing

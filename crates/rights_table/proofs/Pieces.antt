@@ -172,3 +172,11 @@ becomes_kept r q before after old new becomes has =
       | inl same ↦ (after, becomes.is q ∙ cond-true (same_right r q) (Some after) (entered old q) same)
       | inr other ↦ (has.0, becomes.is q ∙ cond-false (same_right r q) (Some after) (entered old q) other ∙ has.1)
     ]
+
+-- and none was made
+pub becomes_no_more : (r q : Right) (before after : Holding) (old new : Table) → Becomes r before after old new → (h : Holding) × (entered new q ≡ Some h) → (h : Holding) × (entered old q ≡ Some h)
+becomes_no_more r q before after old new becomes has =
+    elim (cases_Bool (same_right r q)) [
+      | inl same ↦ (before, ap (entered old) (sym (same_is r q same)) ∙ becomes.was)
+      | inr other ↦ (has.0, sym (becomes.is q ∙ cond-false (same_right r q) (Some after) (entered old q) other) ∙ has.1)
+    ]

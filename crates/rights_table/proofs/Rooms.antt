@@ -1,5 +1,5 @@
 -- An entry more, for a right of which the first share is held, changes nothing that is told.
-use Rattle.std.proofs.Common.{◌≡◌, inl, inr, List, [], ◌∷◌, ◌++◌, sym, ap, ◌∙◌}
+use Rattle.std.proofs.Common.{◌≡◌, inl, inr, cond, List, [], ◌∷◌, ◌++◌, sym, ap, ◌∙◌}
 use Rattle.std.specs.Prelude.{Option, Some, None}
 use Rattle.std.specs.Option.{option_map_or}
 use Rattle.std.proofs.lemmas.Bool.{cases_Bool, cond-true, cond-false}
@@ -9,7 +9,12 @@ use Rattle.rights_table.specs.declared.holding.Holding.{Holding}
 use Rattle.rights_table.specs.declared.entry.Entry.{Entry}
 use Rattle.rights_table.specs.Entries.{entry_of}
 use Rattle.rights_table.proofs.Same.{same_is}
-use Rattle.rights_table.proofs.Entries.{entry_push}
+use Rattle.rights_table.proofs.Entries.{entry_push, no_some}
+use Rattle.std.proofs.lemmas.Option.{same_Some}
+use Rattle.spec_model.specs.declared.plan.Setup.{Setup}
+use Rattle.rights_table.specs.declared.table.Table.{Table}
+use Rattle.rights_table.specs.Holdings.{count_of, mode_of}
+use Rattle.rights_table.specs.Tables.{count_in, mode_in, TakesOver}
 
 -- what is told of it is what was told without an entry
 pub told_same : {X : Type 0} (f : Holding → X) (first : Right → X) (es : List Entry) (e : Entry) (q : Right) → entry_of es e.right ≡ None → f e.holding ≡ first e.right
@@ -32,3 +37,39 @@ kept_push es e q none has =
       | inl same ↦ (e.holding, entry_push es e q none ∙ cond-true (same_right e.right q) (Some e.holding) (entry_of es q) same)
       | inr other ↦ (has.0, entry_push es e q none ∙ cond-false (same_right e.right q) (Some e.holding) (entry_of es q) other ∙ has.1)
     ]
+
+-- ---- taking over
+
+-- nothing new
+pub takes_none : (setup : Setup) (from old new : Table) → new.me ≡ old.me → new.replicas ≡ old.replicas → new.entries.items ≡ old.entries.items → TakesOver setup from old new
+takes_none setup from old new me replicas same = record {
+  me = me;
+  replicas = replicas;
+  kept = λ q h is. ap (λ (l : List Entry). entry_of l q) same ∙ is;
+  more = λ q h none is. absurd (no_some h (sym is ∙ ap (λ (l : List Entry). entry_of l q) same ∙ none));
+}
+
+-- one entry more, as the other table tells
+pub takes_one : (setup : Setup) (from : Table) (es items : List Entry) (e : Entry) → items ≡ es ++ e ∷ [] → entry_of es e.right ≡ None → count_of e.holding ≡ count_in setup from e.right → mode_of e.holding ≡ mode_in from e.right
+    → ((q : Right) (h : Holding) → entry_of es q ≡ Some h → entry_of items q ≡ Some h) × ((q : Right) (h : Holding) → entry_of es q ≡ None → entry_of items q ≡ Some h → (count_of h ≡ count_in setup from q) × (mode_of h ≡ mode_in from q))
+takes_one setup from es items e is none count mode = (λ q h has. pushed q ∙ kept q h has, λ q h before now. more q h before (sym (pushed q) ∙ now))
+  where
+    pushed : (q : Right) → entry_of items q ≡ cond (same_right e.right q) (Some e.holding) (entry_of es q)
+    pushed q = ap (λ (l : List Entry). entry_of l q) is ∙ entry_push es e q none
+
+    kept : (q : Right) (h : Holding) → entry_of es q ≡ Some h → cond (same_right e.right q) (Some e.holding) (entry_of es q) ≡ Some h
+    kept q h has =
+        elim (cases_Bool (same_right e.right q)) [
+          | inl same ↦ absurd (no_some h (sym has ∙ ap (entry_of es) (sym (same_is e.right q same)) ∙ none))
+          | inr other ↦ cond-false (same_right e.right q) (Some e.holding) (entry_of es q) other ∙ has
+        ]
+
+    more : (q : Right) (h : Holding) → entry_of es q ≡ None → cond (same_right e.right q) (Some e.holding) (entry_of es q) ≡ Some h → (count_of h ≡ count_in setup from q) × (mode_of h ≡ mode_in from q)
+    more q h before now =
+        elim (cases_Bool (same_right e.right q)) [
+          | inl same ↦
+              let one : e.right ≡ q = same_is e.right q same in
+              let it : e.holding ≡ h = same_Some e.holding h (sym (cond-true (same_right e.right q) (Some e.holding) (entry_of es q) same) ∙ now) in
+              (ap count_of (sym it) ∙ count ∙ ap (count_in setup from) one, ap mode_of (sym it) ∙ mode ∙ ap (mode_in from) one)
+          | inr other ↦ absurd (no_some h (sym now ∙ cond-false (same_right e.right q) (Some e.holding) (entry_of es q) other ∙ before))
+        ]

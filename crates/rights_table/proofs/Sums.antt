@@ -27,7 +27,7 @@ sum_part f [] (suc k) = omega arith
 sum_part f (l ∷ lines) (suc k) = let rest = sum_part f lines k in omega (arith, sum_by-cons f l (take k lines), sum_by-cons f l lines, rest)
 
 -- what counts where a test passes
-sum_tested : (b : Bool) (f : Line → ℕ) (lines : List Line) → sum_by (λ l. cond b (f l) 0) lines ≡ cond b (sum_by f lines) 0
+pub sum_tested : (b : Bool) (f : Line → ℕ) (lines : List Line) → sum_by (λ l. cond b (f l) 0) lines ≡ cond b (sum_by f lines) 0
 sum_tested true f lines = refl
 sum_tested false f lines = sum_none lines
   where
@@ -35,7 +35,7 @@ sum_tested false f lines = sum_none lines
     sum_none [] = refl
     sum_none (l ∷ lines) = omega (arith, sum_by-cons (λ (m : Line). 0) l lines, sum_none lines)
 
-none : (lines : List Line) → sum_by (λ (l : Line). 0) lines ≡ 0
+pub none : (lines : List Line) → sum_by (λ (l : Line). 0) lines ≡ 0
 none [] = refl
 none (l ∷ lines) = omega (arith, sum_by-cons (λ (m : Line). 0) l lines, none lines)
 

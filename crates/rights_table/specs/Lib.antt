@@ -7,3 +7,7 @@ pub mod Lacks
 pub mod Acting
 pub mod Cells
 pub mod Bounded
+pub mod Whole
+pub mod Overlays
+pub mod Showing
+pub mod Touched

@@ -12,3 +12,7 @@ is_part _ = false
 -- no need is of points
 abbrev pub SpeaksOfNone : Need → Type 0
 SpeaksOfNone need = is_part need.right ≡ false
+
+-- the right is no points
+abbrev pub IsWhole : Right → Type 0
+IsWhole r = is_part r ≡ false

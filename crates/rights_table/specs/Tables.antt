@@ -82,3 +82,10 @@ pub record Becomes (r : Right) (before after : Holding) (old new : Table) : Type
   pub replicas : new.replicas ≡ old.replicas
   pub was : entered old r ≡ Some before
   pub is : (q : Right) → entered new q ≡ (if same_right r q then Some after else entered old q)
+
+-- rights that have an entry keep it, and one that gets an entry is held as the other table tells
+pub record TakesOver (setup : Setup) (from old new : Table) : Type 0 where
+  pub me : new.me ≡ old.me
+  pub replicas : new.replicas ≡ old.replicas
+  pub kept : (q : Right) (h : Holding) → entered old q ≡ Some h → entered new q ≡ Some h
+  pub more : (q : Right) (h : Holding) → entered old q ≡ None → entered new q ≡ Some h → (holdings.count_of h ≡ count_in setup from q) × (holdings.mode_of h ≡ mode_in from q)

@@ -8,11 +8,17 @@ mod first;
 mod holding;
 mod laws;
 mod moving;
+mod overlay;
+mod owning;
 mod passing;
+mod readying;
+mod showing;
 mod step;
 mod table;
+mod taking;
 mod told;
 
 pub use holding::Holding;
-pub use laws::tables_tell;
+pub use laws::{tables_learn, tables_tell};
+pub use overlay::Overlay;
 pub use table::Table;

@@ -14,7 +14,7 @@ use effect_model::cell_named;
 use spec_model::{Inst, Line, Right, Setup, Spec, WantAsk};
 
 /// Whether a number has a lower bound.
-fn has_lower(spec: &Spec, num: u32) -> bool
+pub(crate) fn has_lower(spec: &Spec, num: u32) -> bool
     ensures { result ≡ bounded.has_lower spec.now num }
 {
     match spec.nums.get(num as usize) {
@@ -24,7 +24,7 @@ fn has_lower(spec: &Spec, num: u32) -> bool
 }
 
 /// Whether it has an upper bound.
-fn has_upper(spec: &Spec, num: u32) -> bool
+pub(crate) fn has_upper(spec: &Spec, num: u32) -> bool
     ensures { result ≡ bounded.has_upper spec.now num }
 {
     match spec.nums.get(num as usize) {
@@ -34,7 +34,7 @@ fn has_upper(spec: &Spec, num: u32) -> bool
 }
 
 /// The effect lines of an instance's operation.
-fn lines_of<'a>(spec: &'a Spec, inst: &Inst) -> &'a [Line]
+pub(crate) fn lines_of<'a>(spec: &'a Spec, inst: &Inst) -> &'a [Line]
     ensures { result.now ≡ changes.effect_lines spec.now inst.now }
 {
     match spec.ops.get(inst.op as usize) {

@@ -75,6 +75,7 @@ impl Table {
         requires held { IsHeldPiece (held_in setup.now self.old right.now (span_given piece.now)) piece.now }
         ensures out { (logs : AllLogs) (me : ℕ) (own : Sequence LogItemOf) (among : RightOf → Bool) (x : LogItemOf) (to : ℕ) → x.body ≡ body.Out to right.now piece.now → IsTable setup.now logs me own among self.old → IsTable setup.now logs me (own ++ x ∷ []) among self.new }
         ensures kept { KeepsEntries self.old self.new }
+        ensures no_more { KeepsEntries self.new self.old }
     {
         self.change(right, &Step::Give(*piece));
     }
@@ -87,6 +88,7 @@ impl Table {
         requires joins { passing.can_accept setup.now.replicas (held_in setup.now self.old right.now (span_given piece.now)) piece.now ≡ true }
         ensures accepted { (logs : AllLogs) (me : ℕ) (own : Sequence LogItemOf) (among : RightOf → Bool) (x out : LogItemOf) (from at to : ℕ) → x.body ≡ body.Accept from at → item_at logs from at ≡ Some out → out.body ≡ body.Out to right.now piece.now → IsTable setup.now logs me own among self.old → IsTable setup.now logs me (own ++ x ∷ []) among self.new }
         ensures kept { KeepsEntries self.old self.new }
+        ensures no_more { KeepsEntries self.new self.old }
     {
         self.change(right, &Step::Accept(*piece));
     }

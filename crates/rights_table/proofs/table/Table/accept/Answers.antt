@@ -5,7 +5,7 @@ use Rattle.run_model.specs.Passing.{can_accept}
 use Rattle.rights_table.specs.Holdings.{told}
 use Rattle.rights_table.proofs.Entries.{kind_entered}
 use Rattle.rights_table.proofs.Telling.{told_held}
-use Rattle.rights_table.proofs.Pieces.{joins_may, accepts, becomes_kept}
+use Rattle.rights_table.proofs.Pieces.{joins_may, accepts, becomes_kept, becomes_no_more}
 use Rattle.rights_table.proofs.table.Table.accept.Goals as goal
 
 pub change-requires-clause-may : goal.change-requires-clause-may
@@ -26,3 +26,8 @@ pub returns-clause-kept : goal.returns-clause-kept
 returns-clause-kept c = λ q has.
     let done = c.change.ensures in
     becomes_kept c.args.right.now q done.0 done.1 c.args.self.now c.change.new.self done.2 has
+
+pub returns-clause-no_more : goal.returns-clause-no_more
+returns-clause-no_more c = λ q has.
+    let done = c.change.ensures in
+    becomes_no_more c.args.right.now q done.0 done.1 c.args.self.now c.change.new.self done.2 has
