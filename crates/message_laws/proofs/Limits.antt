@@ -57,7 +57,7 @@ high_first [] spec k all = omega arith
 high_first (n ∷ nums) spec zero all = high_distance n.init all.0.init n.max all.0.init_is all.0.max_fits
 high_first (n ∷ nums) spec (suc k) all = high_first nums spec k all.1
 
-first_small : (spec : Spec) (r : Right) → IsWellFormed spec → first_count spec r ≤ 1000000000000
+pub first_small : (spec : Spec) (r : Right) → IsWellFormed spec → first_count spec r ≤ 1000000000000
 first_small spec (right.Low cell) well = low_first spec.nums spec cell.num well.nums
 first_small spec (right.High cell) well = high_first spec.nums spec cell.num well.nums
 first_small spec (right.Lock lock key) well = omega arith
