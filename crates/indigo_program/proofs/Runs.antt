@@ -1,12 +1,10 @@
 -- Documents that are run or refused.
-use Rattle.std.proofs.Common.{◌≡◌, inl, inr, ℕ, zero, suc, false, List, [], ◌∷◌, length, refl, sym, ap, subst, ◌∙◌}
-use Rattle.std.specs.Prelude.{None, Result, Ok, Err, IfOk, slice_get}
-use Rattle.std.specs.List.{AllByRecursion}
-use Rattle.std.specs.Option.{option_map_or}
-use Rattle.spec_model.specs.declared.spec.Num.{Num}
+use Rattle.std.proofs.Common.{◌≡◌, inl, inr, ℕ, List, [], length, sym, ap, subst, ◌∙◌}
+use Rattle.std.specs.Prelude.{Result, Ok, Err, IfOk}
 use Rattle.line_text.specs.declared.cause.Cause.{Cause}
-use Rattle.replica_core.specs.Tables.{HasLowsAlone}
-use Rattle.reservation_plan.proofs.Lacking.{no_locks, no_masks, no_parts}
+use Rattle.reservation_plan.proofs.Lacking.{no_parts}
+use Rattle.reservation_plan.proofs.Made.{plan_made}
+use Rattle.reservation_plan.specs.Derived.{derived_plan}
 use Rattle.scenario_text.specs.declared.document.Document.{Document}
 use Rattle.scenario_text.specs.Built.{IsBuilt}
 use Rattle.line_text.specs.Lines.{lines_of}
@@ -17,22 +15,12 @@ use Rattle.indigo_program.specs.declared.command.Command.{Command}
 use Rattle.indigo_program.specs.declared.command.Command.TheVariants as commands
 use Rattle.plan_answers.specs.declared.answer.Answer.{Answer}
 use Rattle.indigo_program.specs.CauseTexts.{refusal_text}
-use Rattle.indigo_program.specs.Headline.{IsAnswerTo, setup_of}
+use Rattle.indigo_program.specs.Headline.{IsAnswerTo}
 use Rattle.indigo_program.specs.Inputs.{Refuses}
 
-no_most : (nums : List Num) (n : ℕ) → AllByRecursion (λ (num : Num). num.max ≡ None) nums → option_map_or (λ (num : Num). num.max) (slice_get nums n) None ≡ None
-no_most [] n all = refl
-no_most (num ∷ nums) zero all = all.0
-no_most (num ∷ nums) (suc n) all = no_most nums n all.1
-
--- a document that can be run has rights to lower alone
-pub lows_alone : (d : Document) → IsBuilt d → HasLowsAlone (setup_of d.spec d.replicas)
-lows_alone d built = record {
-  upper = λ cell. no_most d.spec.nums cell.num built.nums;
-  locks = no_locks d.spec built.clauses built.preds;
-  masks = no_masks d.spec (subst (AllByRecursion (λ clause. clause.mask ≡ false)) (sym built.clauses) tt);
-  parts = no_parts d.spec built.ops;
-}
+-- a document that can be run has a derived plan without partitions
+pub partless : (d : Document) → IsBuilt d → (derived_plan d.spec).parts ≡ []
+partless d built = no_parts d.spec (derived_plan d.spec) (plan_made d.spec) built.ops
 
 -- the reply that refuses a line is an answer
 pub refused_answer : {E : Type 0} (command : Command) (bytes : List ℕ) (line : ℕ) (cause : Cause) (result : Result Answer E) → Refuses command bytes line cause

@@ -1,17 +1,17 @@
 //! What each command answers to an input that was read.
 
-ghost use Rattle.std.specs.Prelude.{◌≡◌, ◌<◌, ◌≤◌, ◌++◌, IfOk, Ok, OnOk, codes, length};
+ghost use Rattle.std.specs.Prelude.{◌≡◌, ◌<◌, ◌≤◌, ◌++◌, [], IfOk, Ok, OnOk, codes, length};
 ghost use Rattle.std.specs.List.{AllByRecursion};
 ghost use Rattle.spec_model.specs.Fits.{IsWellFormed};
 ghost use Rattle.run_model.specs.Sound.{IsSettled};
-ghost use Rattle.replica_core.specs.Tables.{HasLowsAlone};
+ghost use Rattle.reservation_plan.specs.Derived.{derived_plan};
 ghost use Rattle.scenario_text.specs.Built.{StaysUp};
 ghost use Rattle.scenario_text.specs.Reading.{document_of};
 ghost use Rattle.scenario_text.specs.WellFormed.{IsWellFormedDocument, ScheduleFits};
 ghost use Rattle.line_text.specs.Lines.{lines_of};
 ghost use Rattle.plan_answers.specs.Checking as checks;
 ghost use Rattle.indigo_program.specs.CauseTexts.{cause_text, refusal_text};
-ghost use Rattle.indigo_program.specs.Headline.{IsAnswerTo, IsLegalTrace, IsRunAnswer, input_limit, setup_of};
+ghost use Rattle.indigo_program.specs.Headline.{IsAnswerTo, IsLegalTrace, IsRunAnswer, input_limit};
 ghost use Rattle.indigo_program.specs.declared.command.Command.TheVariants as commands;
 
 use crate::command::Command;
@@ -63,7 +63,7 @@ fn refused(alloc: Global, line: u32, cause: Cause) -> Result<Answer, NoMemory>
 /// The trace of replicas on a schedule.
 fn trace(alloc: Global, setup: &Setup, orders: &[Order]) -> Result<List<u8>, NoMemory>
     requires settled { IsSettled setup.now }
-    requires alone { HasLowsAlone setup.now }
+    requires partless { setup.now.plan.parts ≡ [] }
     requires few { setup.now.replicas ≤ 8 }
     requires schedule { ScheduleFits setup.now.spec setup.now.replicas orders.now }
     requires up { AllByRecursion (λ order. StaysUp order.ask) orders.now }
@@ -81,7 +81,7 @@ fn run_by_plan(
     orders: &[Order],
 ) -> Result<Answer, NoMemory>
     requires well_formed { IsWellFormed spec }
-    requires alone { HasLowsAlone (setup_of spec replicas) }
+    requires partless { (derived_plan spec).parts ≡ [] }
     requires some { 0 < replicas }
     requires few { replicas ≤ 8 }
     requires schedule { ScheduleFits spec replicas orders.now }

@@ -1,20 +1,29 @@
 -- A replica before its first step.
-use Rattle.std.proofs.Common.{◌≡◌, ℕ, zero, suc, ◌+◌, ◌-◌, ◌<◌, List, [], ◌∷◌, length, map, replicate, refl, sym, ap, subst, ◌∙◌, arith}
+use Rattle.std.proofs.Common.{◌≡◌, ℕ, zero, suc, ◌+◌, ◌/◌, ◌%◌, ◌<◌, ◌≤◌, true, Bool, cond, List, [], ◌∷◌, length, map, replicate, refl, sym, ap, subst, ◌∙◌, arith}
+use Rattle.std.specs.Prelude.{nat_lt}
 use Rattle.std.specs.List.{AllByRecursion}
+use Rattle.std.proofs.Math.Nat.{div-le_self, div_self, mod_self}
+use Rattle.std.proofs.lemmas.Bool.{cond-true, cond_both, le-ltb}
 use Rattle.std.proofs.lemmas.List.{length-replicate}
 use Rattle.spec_model.specs.declared.plan.Setup.{Setup}
 use Rattle.spec_model.specs.declared.log.LogItem.{LogItem}
+use Rattle.spec_model.specs.declared.right.Right.{Right}
 use Rattle.spec_model.specs.declared.right.Want.{Want}
-use Rattle.spec_model.specs.declared.right.Right.TheVariants as right
 use Rattle.run_model.specs.Logs.{Logs, log_at}
-use Rattle.run_model.specs.Rights.{even_share, first_count, held_count}
+use Rattle.run_model.specs.Rights.{even_share, first_total, is_shared}
 use Rattle.run_model.specs.Worlds.{Standing, first_standing, no_cut}
-use Rattle.run_model.specs.Fitting.{AreInRow, ItemFits, WantFits}
+use Rattle.run_model.specs.Fitting.{ItemFits, SetupFits, WantFits}
 use Rattle.causal_store.specs.Stores.{IsStore, cut_in}
 use Rattle.causal_store.proofs.Stored.{no_items_fit}
-use Rattle.replica_core.specs.Tables.{AreFirst, HasLowsAlone}
-use Rattle.replica_core.specs.Replicas.{AreCovered, IsKnown, IsReplica, known_to, own_log, standing_of}
+use Rattle.rights_table.specs.Tables.{IsTable}
+use Rattle.rights_table.specs.Whole.{AreFew, HasAll}
+use Rattle.message_laws.specs.Views.{View, IsView}
+use Rattle.message_laws.proofs.Limits.{first_small}
+use Rattle.replica_core.specs.Replicas.{IsReplica, known_to, own_log, standing_of}
 use Rattle.replica_core.specs.declared.replica.Replica.{Replica}
+use Rattle.replica_core.proofs.Grown.{GrowsTo, grows_with}
+use Rattle.replica_core.proofs.Items.{with_none}
+use Rattle.replica_core.proofs.Logged.{gives_view}
 
 -- each of the first logs is empty
 nothing_at : (n j : ℕ) → log_at (replicate n []) j ≡ []
@@ -32,38 +41,70 @@ all_equal : {X : Type 0} (P : X → Type 0) (n : ℕ) (x : X) → P x → AllByR
 all_equal P zero x h = tt
 all_equal P (suc n) x h = (h, all_equal P n x h)
 
--- a replica that was made, part by part
+-- ---- shares
+
+-- a share is at most one more than there are
+share_small : (all n me : ℕ) → even_share all n me ≤ all + 1
+share_small all n me =
+    let part = div-le_self all n in
+    cond_both (nat_lt me (all % n)) 1 0 (λ k. all / n + k ≤ all + 1) (λ yes. omega (arith, part)) (λ no. omega (arith, part))
+
+-- of as many as replicas each has one
+one_share : (n me : ℕ) → 0 < n → even_share n n me ≤ n
+one_share n me some =
+    let one : n / n ≡ 1 = div_self some in
+    let none : even_share n n me ≡ n / n + cond (nat_lt me 0) 1 0 = ap (λ k. n / n + cond (nat_lt me k) 1 0) (mod_self n) in
+    let zero_more : n / n + cond (nat_lt me 0) 1 0 ≡ n / n + 0 = ap (λ b. n / n + cond b 1 0) (le-ltb me 0 (omega arith)) in
+    omega (arith, one, none, zero_more, some)
+
+first_few : (setup : Setup) (r : Right) → setup.replicas ≤ 16 → SetupFits setup → first_total setup r ≤ 1000000000000
+first_few setup r few fits =
+    let counts = first_small setup.spec r fits.spec in
+    cond_both (is_shared r) setup.replicas _ (λ n. n ≤ 1000000000000) (λ yes. omega (arith, few)) (λ no. omega (arith, counts))
+
+none_few : (setup : Setup) (logs : Logs) (me : ℕ) → setup.replicas ≤ 16 → SetupFits setup → AreFew setup logs me []
+none_few setup logs me few fits = record {
+  counts = λ r. omega (arith, share_small (first_total setup r) setup.replicas me, first_few setup r few fits);
+  shares = λ r shared.
+      let share : even_share (first_total setup r) setup.replicas me ≡ even_share setup.replicas setup.replicas me = ap (λ n. even_share n setup.replicas me) (cond-true (is_shared r) setup.replicas _ shared) in
+      omega (arith, share, one_share setup.replicas me fits.some);
+}
+
+-- ---- a replica that was made, part by part
+
 pub record IsFirst (setup : Setup) (me : ℕ) (r : Replica) : Type 0 where
   pub me_is : r.me ≡ me
   pub within : me < setup.replicas
-  pub alone : HasLowsAlone setup
+  pub few : setup.replicas ≤ 16
+  pub setup_fits : SetupFits setup
+  pub partless : setup.plan.parts ≡ []
   pub store : IsStore setup.replicas r.store
   pub empty : known_to r ≡ replicate setup.replicas []
-  pub lows : AreFirst setup me r.lows
+  pub table : (logs : Logs) (among : Right → Bool) → IsTable setup logs me [] among r.table
   pub wants : r.wants ≡ []
   pub told : r.told ≡ replicate setup.replicas (no_cut setup.replicas)
-
--- with nothing of its own it holds its share
-share_held : (share : ℕ) → share ≡ (share + 0) - 0
-share_held share = omega arith
 
 pub first_replica : (setup : Setup) (me : ℕ) (r : Replica) → IsFirst setup me r → IsReplica setup me r
 first_replica setup me r h =
     let own : log_at (known_to r) me ≡ [] = ap (λ (l : Logs). log_at l me) h.empty ∙ nothing_at setup.replicas me in
+    let mine : own_log r ≡ [] = ap (log_at (known_to r)) h.me_is ∙ own in
+    let view : IsView setup (record { me = me; known = known_to r; cut = cut_in r.store }) = gives_view setup me (known_to r) r.store [] (record {
+      within = h.within;
+      store = h.store;
+      grown = subst (GrowsTo (known_to r)) (with_none me (known_to r)) (grows_with me [] (known_to r));
+      there = own;
+      fits = subst (AllByRecursion (AllByRecursion (ItemFits setup))) (sym h.empty) (no_items_fit (ItemFits setup) setup.replicas);
+      row = tt;
+      seen = tt;
+    }) in
+    let all : HasAll setup (known_to r) me [] r.table = record { table = h.table (known_to r) (λ q. true); few = none_few setup (known_to r) me h.few h.setup_fits } in
     record {
       me_is = h.me_is;
-      within = h.within;
-      alone = h.alone;
+      setup_fits = h.setup_fits;
+      partless = h.partless;
       store = h.store;
-      fits = subst (AllByRecursion (AllByRecursion (ItemFits setup))) (sym h.empty) (no_items_fit (ItemFits setup) setup.replicas);
-      own = subst (AreInRow me 0) (sym own) tt;
-      known = subst (AllByRecursion (λ (i : LogItem). IsKnown (known_to r) me i.body)) (sym own) tt;
-      covered = subst (λ (l : List LogItem). AreCovered setup (known_to r) me l) (sym own) (λ cell among. omega arith);
-      holds = record {
-        whole = h.lows.whole;
-        held = λ i cell is. h.lows.shares i cell is ∙ share_held (even_share (first_count setup.spec (right.Low cell)) setup.replicas me) ∙ ap (λ (l : List LogItem). held_count setup (known_to r) me l (right.Low cell)) (sym own);
-        small = λ i. let up = h.lows.small i in omega (arith, up);
-      };
+      view = subst (λ i. let v : View = record { me = i; known = known_to r; cut = cut_in r.store } in IsView setup v) (sym h.me_is) view;
+      all = subst (λ i. HasAll setup (known_to r) i (own_log r) r.table) (sym h.me_is) (subst (λ (l : List LogItem). HasAll setup (known_to r) me l r.table) (sym mine) all);
       wants = subst (AllByRecursion (WantFits setup)) (sym h.wants) tt;
       few_wants = omega (arith, ap length h.wants);
       told = ap length h.told ∙ length-replicate setup.replicas (no_cut setup.replicas);

@@ -1,217 +1,158 @@
 -- Items that a replica may log next, one after the other.
-use Rattle.std.proofs.Common.{◌≡◌, ℕ, zero, suc, ◌+◌, ◌-◌, ◌/◌, ◌<◌, ◌≤◌, ◌^◌, min, Bool, true, false, cond, List, [], ◌∷◌, ◌++◌, length, get_or, refl, sym, ap, subst, ◌∙◌, arith, length-append}
-use Rattle.std.specs.Prelude.{Some, None, Option, Contains, sum_by, slice_get, ◌==◌}
+use Rattle.std.proofs.Common.{◌≡◌, ◌≢◌, ℕ, List, [], ◌∷◌, ◌++◌, map, refl, sym, ap, subst, ◌∙◌, arith}
+use Rattle.std.specs.Prelude.{Option, slice_get, slice_set}
 use Rattle.std.specs.List.{AllByRecursion}
-use Rattle.std.proofs.lemmas.Bool.{eqb-false}
+use Rattle.std.proofs.lemmas.List.{get_or-set_other}
 use Rattle.spec_model.specs.declared.plan.Setup.{Setup}
-use Rattle.spec_model.specs.declared.instance.Cell.{Cell}
-use Rattle.spec_model.specs.declared.right.Right.{Right}
-use Rattle.spec_model.specs.declared.right.Right.TheVariants as right
-use Rattle.spec_model.specs.declared.right.Held.TheVariants as held
-use Rattle.spec_model.specs.declared.right.Want.{Want}
-use Rattle.spec_model.specs.declared.right.WantAsk.{WantAsk}
-use Rattle.spec_model.specs.declared.right.WantAsk.TheVariants as asked
-use Rattle.spec_model.specs.declared.right.Piece.{Piece}
-use Rattle.spec_model.specs.declared.right.Piece.TheVariants as piece
+use Rattle.spec_model.specs.declared.right.Need.{Need}
 use Rattle.spec_model.specs.declared.log.Body.{Body}
 use Rattle.spec_model.specs.declared.log.Body.TheVariants as body
 use Rattle.spec_model.specs.declared.log.LogItem.{LogItem}
-use Rattle.spec_model.specs.Universe.{cells}
-use Rattle.run_model.specs.Logs.{Logs, item_at, log_at}
-use Rattle.run_model.specs.Rights.{body_loses, even_share, first_total, held_count, same_right}
-use Rattle.run_model.specs.Worlds.{Standing, Sending, holding, logged, logged_all}
-use Rattle.run_model.specs.Steps.{accepts_of, answered, given}
-use Rattle.run_model.specs.Wants.{amount_of, need_of, piece_for}
-use Rattle.run_model.specs.Fitting.{BodyFits, IsPlaced, ItemFits, RightFits, WantFits}
-use Rattle.run_model.proofs.Lists.{each_append, each_at, each_weaker}
-use Rattle.run_model.proofs.Escrow.{same_right_is}
-use Rattle.run_model.proofs.Agreed.{AllAgree, gains_all_agree}
-use Rattle.causal_store.specs.Stores.{IsStore}
-use Rattle.replica_core.specs.Views.{item_of}
-use Rattle.replica_core.specs.Replicas.{HasLogged, HasRoom, IsKnown, IsReplica, known_to, own_log, standing_of, view_of}
-use Rattle.replica_core.specs.Tables.{AsksCount, HasLowsAlone, IsLow}
-use Rattle.replica_core.specs.Decisions.{AreNext, IsNext}
-use Rattle.replica_core.specs.declared.replica.Replica.{Replica}
+use Rattle.run_model.specs.Allowed.{IsAllowed}
+use Rattle.run_model.specs.Fitting.{BodyFits, ItemFits, NeedFits}
+use Rattle.run_model.specs.Logs.{Logs, log_at}
+use Rattle.run_model.specs.States.{truths_in}
+use Rattle.run_model.specs.Worlds.{Standing, logged, logged_all}
+use Rattle.run_model.proofs.Lists.{each_at}
 use Rattle.causal_store.proofs.Stored.{each_log}
-use Rattle.replica_core.proofs.Changes.{accepts_each, items_for, logged_append, others_known}
-use Rattle.replica_core.proofs.Logged.{OthersSame, all_agree, cut_long, known_same}
-use Rattle.replica_core.proofs.Lows.{want_low}
+use Rattle.rights_table.specs.declared.table.Table.{Table}
+use Rattle.rights_table.specs.Tables.{KeepsEntries}
+use Rattle.rights_table.specs.Whole.{GoesWith, HasEntryFor, MayOwn}
+use Rattle.message_laws.specs.Laws.{NeedsFit}
+use Rattle.message_laws.specs.Views.{IsKnown}
+use Rattle.replica_core.specs.Next.{AreEntered, AreNext, GoesAlong, HasPut, IsNext, body_of, taken_by}
+use Rattle.replica_core.specs.Replicas.{HasLogged, HasRoom, IsReplica, KnowsOwn, known_to, own_log, standing_of, view_of}
+use Rattle.replica_core.specs.declared.replica.Replica.{Replica}
+use Rattle.replica_core.proofs.Items.{items_for, set_again, set_back}
+use Rattle.std.proofs.lemmas.Option.{slice_get_within}
 
 -- ---- one item
 
--- the next item of a replica fits the store
-pub next_fits : (r : Replica) (b : Body) (item : LogItem) → IsStore (length (known_to r)) r.store → r.me < length (known_to r) → item ≡ item_of (view_of r) b → HasRoom 1 r → IsPlaced (length (known_to r)) item
-next_fits r b item store place is room = subst (IsPlaced (length (known_to r))) (sym is) (record {
-  origin = place;
-  small = room;
-  past = cut_long (length (known_to r)) r store;
-})
+-- what an item of a replica's own log may accept is known
+pub along_known : (setup : Setup) (logs : Logs) (me : ℕ) (needs : List Need) (p : Standing) (b : Body) → GoesAlong setup logs me needs p b → IsKnown logs me b
+along_known setup logs me needs p (body.Act inst) h = tt
+along_known setup logs me needs p (body.Out to r piece) h = tt
+along_known setup logs me needs p (body.Accept from at) h = (h.other, slice_get_within (log_at logs from) at h.out h.there)
 
--- by logs that are the same but for the own one the same items are next
-pub next_agree : (setup : Setup) (me : ℕ) (a b : Logs) (p : Standing) (items : List LogItem) → OthersSame me a b → AllByRecursion (λ i. IsKnown a me i.body) p.log → AreNext setup a me p items → AreNext setup b me p items
-next_agree setup me a b p [] same known next = tt
-next_agree setup me a b p (x ∷ items) same known next =
-    let agree : AllAgree a b p.log = all_agree me a b a p.log same known in
-    let count : (r : Right) → held_count setup a me p.log r ≡ held_count setup b me p.log r =
-    λ r. ap (λ n. (even_share (first_total setup r) setup.replicas me + n) - sum_by (λ (i : LogItem). body_loses setup.spec r i.body) p.log) (gains_all_agree setup.spec a b r p.log agree) in (
-      record {
-        is = next.0.is;
-        fits = next.0.fits;
-        known = known_same me a b x.body same next.0.known;
-        enough = λ cell among. subst (λ n. body_loses setup.spec (right.Low cell) x.body ≤ n) (count (right.Low cell)) (next.0.enough cell among);
-      },
-      next_agree setup me a b (logged me x.body p) items same (each_append (λ (i : LogItem). IsKnown a me i.body) p.log _ known (next.0.known, tt)) next.1,
-    )
+-- the table may do what it does
+goes_with : NeedsFit → (setup : Setup) (r : Replica) (b : Body) → IsReplica setup r.me r → BodyFits setup b → GoesAlong setup (known_to r) r.me r.needs (standing_of 0 [] r) b
+    → GoesWith setup (known_to r) r.me (own_log r) (view_of r).cut (taken_by (known_to r) b) r.needs b
+goes_with need setup r (body.Act inst) own fits h = (h, subst (AllByRecursion (NeedFits setup)) (sym h) (need setup (truths_in setup.spec (known_to r) (view_of r).cut) inst own.setup_fits fits))
+goes_with need setup r (body.Out to right piece) own fits h = tt
+goes_with need setup r (body.Accept from at) own fits h =
+    let known : Logs = known_to r in
+    let there : BodyFits setup h.out.body = (each_at (ItemFits setup) (log_at known from) at h.out (each_log (ItemFits setup) known from own.view.fits) h.there).body in
+    let out = subst (BodyFits setup) h.gives there in
+    record {
+      out = h.out;
+      to = r.me;
+      right = h.right;
+      piece = h.piece;
+      there = h.there;
+      of_is = ap body_of h.there;
+      gives = h.gives;
+      right_fits = out.1;
+      piece_fits = out.2;
+      joins = h.joins;
+    }
+
+may_own : NeedsFit → (setup : Setup) (r : Replica) (item : LogItem) → IsReplica setup r.me r → IsNext setup (known_to r) r.me r.needs (standing_of 0 [] r) item → HasRoom 1 r → MayOwn setup (known_to r) r.me (own_log r) item (taken_by (known_to r) item.body) r.needs
+may_own need setup r item own next room =
+    let deps : item.deps ≡ (view_of r).cut = ap (λ (i : LogItem). i.deps) next.is in
+    record {
+      fits = next.fits;
+      allowed = subst (λ (d : List ℕ). IsAllowed setup (known_to r) r.me (own_log r) d item.body) (sym deps) next.allowed;
+      with = subst (λ (d : List ℕ). GoesWith setup (known_to r) r.me (own_log r) d (taken_by (known_to r) item.body) r.needs item.body) (sym deps) (goes_with need setup r item.body own next.fits next.along);
+      few = omega (arith, room);
+    }
+
+-- by what goes with it in the code
+pub may_own_with : NeedsFit → (setup : Setup) (r : Replica) (item : LogItem) (of : Option Body) (needs : List Need) → IsReplica setup r.me r → IsNext setup (known_to r) r.me r.needs (standing_of 0 [] r) item → HasRoom 1 r → of ≡ taken_by (known_to r) item.body → needs ≡ r.needs
+    → MayOwn setup (known_to r) r.me (own_log r) item of needs
+may_own_with need setup r item of needs own next room of_is needs_are =
+    subst (λ o. MayOwn setup (known_to r) r.me (own_log r) item o needs) (sym of_is) (subst (MayOwn setup (known_to r) r.me (own_log r) item (taken_by (known_to r) item.body)) (sym needs_are) (may_own need setup r item own next room))
+
+-- ---- one after the other
+
+-- they are next by logs that are the same but for the own one
+pub next_set : (setup : Setup) (a b : Logs) (me : ℕ) (needs : List Need) (p : Standing) (items : List LogItem) → ((l : List LogItem) → slice_set a me l ≡ slice_set b me l) → AreNext setup a me needs p items → AreNext setup b me needs p items
+next_set setup a b me needs p [] same next = tt
+next_set setup a b me needs p (x ∷ items) same next = (subst (λ (l : Logs). IsNext setup l me needs p x) (same p.log) next.0, next_set setup a b me needs (logged me x.body p) items same next.1)
+
+-- what is known then is known but for the own log
+pub then_same : (known : Logs) (new : Replica) → KnowsOwn known new → (l : List LogItem) → slice_set known new.me l ≡ slice_set (known_to new) new.me l
+then_same known new knows l = sym (ap (λ (k : Logs). slice_set k new.me l) knows ∙ set_again known new.me (own_log new) l)
 
 -- once the first item was logged the others are next
-pub next_then : (setup : Setup) (b : Body) (old new : Replica) (items : List LogItem) → HasLogged setup b old new → AreNext setup (known_to old) old.me (logged old.me b (standing_of 0 [] old)) items → IsReplica setup old.me old → IsKnown (known_to old) old.me b
-    → AreNext setup (known_to new) new.me (standing_of 0 [] new) items
-next_then setup b old new items h next own known =
-    let me : ℕ = old.me in
-    let mine : new.me ≡ me = h.own.me_is in
-    let others : OthersSame me (known_to old) (known_to new) = subst (λ i. OthersSame i (known_to old) (known_to new)) mine (others_known (known_to old) new h.knows) in
-    let p : Standing = logged me b (standing_of 0 [] old) in
-    let there : AreNext setup (known_to new) me p items = next_agree setup me (known_to old) (known_to new) p items others (each_append (λ (i : LogItem). IsKnown (known_to old) me i.body) (own_log old) _ own.known (known, tt)) next in
-    subst (λ i. AreNext setup (known_to new) i (standing_of 0 [] new) items) (sym mine) (subst (λ (q : Standing). AreNext setup (known_to new) me q items) (sym (h.stands 0 [])) there)
+pub next_then : (setup : Setup) (needs : List Need) (b : Body) (old new : Replica) (items : List LogItem) → HasLogged setup b old new → AreNext setup (known_to old) old.me needs (logged old.me b (standing_of 0 [] old)) items → AreNext setup (known_to new) new.me needs (standing_of 0 [] new) items
+next_then setup needs b old new items h next =
+    let there : AreNext setup (known_to old) new.me needs (standing_of 0 [] new) items =
+    subst (λ i. AreNext setup (known_to old) i needs (standing_of 0 [] new) items) (sym h.own.me_is) (subst (λ (q : Standing). AreNext setup (known_to old) old.me needs q items) (sym (h.stands 0 [])) next) in
+    next_set setup (known_to old) (known_to new) new.me needs (standing_of 0 [] new) items (then_same (known_to old) new h.knows) there
 
--- what a replica may log: it loses nothing, and accepts what is known
-abbrev pub IsFree : Setup → Logs → ℕ → Body → Type 0
-IsFree setup logs me b = BodyFits setup b × IsKnown logs me b × ((r : Right) → body_loses setup.spec r b ≡ 0)
+-- the first one is next by what is known
+pub next_first : (setup : Setup) (r : Replica) (needs : List Need) (x : LogItem) (items : List LogItem) → AreNext setup (known_to r) r.me needs (standing_of 0 [] r) (x ∷ items) → IsNext setup (known_to r) r.me needs (standing_of 0 [] r) x
+next_first setup r needs x items next = subst (λ (l : Logs). IsNext setup l r.me needs (standing_of 0 [] r) x) (set_back (known_to r) r.me) next.0
 
-pub free_next : (setup : Setup) (logs : Logs) (me : ℕ) (bodies : List Body) (p : Standing) → AllByRecursion (IsFree setup logs me) bodies → AreNext setup logs me p (items_for me bodies p)
-free_next setup logs me [] p all = tt
-free_next setup logs me (b ∷ bodies) p all = (
-  record { is = refl; fits = all.0.0; known = all.0.1; enough = λ cell among. let none = all.0.2 (right.Low cell) in omega (arith, none) },
-  free_next setup logs me bodies (logged me b p) all.1,
-)
+pub next_one : (setup : Setup) (r : Replica) (needs : List Need) (x : LogItem) → IsNext setup (known_to r) r.me needs (standing_of 0 [] r) x → AreNext setup (known_to r) r.me needs (standing_of 0 [] r) (x ∷ [])
+next_one setup r needs x next = (subst (λ (l : Logs). IsNext setup l r.me needs (standing_of 0 [] r) x) (sym (set_back (known_to r) r.me)) next, tt)
 
--- the Accepts of items that fit do
-pub accepts_fit : (setup : Setup) (me : ℕ) (items : List LogItem) → AllByRecursion (ItemFits setup) items → AllByRecursion (BodyFits setup) (accepts_of me items)
-accepts_fit setup me items fit =
-    accepts_each (BodyFits setup) me items (each_weaker (ItemFits setup) (λ (x : LogItem). BodyFits setup (body.Accept x.origin x.index)) (λ x h. (h.placed.origin, h.placed.small)) items fit)
-
--- the Accepts of applied items lose nothing
-pub accepts_free : (setup : Setup) (logs : Logs) (me : ℕ) (items : List LogItem) → AllByRecursion (ItemFits setup) items → AllByRecursion (λ x. IsKnown logs me (body.Accept x.origin x.index)) items → AllByRecursion (IsFree setup logs me) (accepts_of me items)
-accepts_free setup logs me items fit all = accepts_each (IsFree setup logs me) me items (both items fit all)
+-- by the same log and cut the same items are next
+pub next_like : (setup : Setup) (logs : Logs) (me : ℕ) (needs : List Need) (p q : Standing) (items : List LogItem) → p.log ≡ q.log → p.cut ≡ q.cut → AreNext setup logs me needs p items → AreNext setup logs me needs q items
+next_like setup logs me needs p q items log cut next =
+    subst (λ (l : List LogItem). AreNext setup logs me needs (record q { log = l }) items) log (subst (λ (k : List ℕ). AreNext setup logs me needs (record q { log = p.log; cut = k }) items) cut (bare items p q next))
   where
-    both : (items : List LogItem) → AllByRecursion (ItemFits setup) items → AllByRecursion (λ x. IsKnown logs me (body.Accept x.origin x.index)) items → AllByRecursion (λ x. IsFree setup logs me (body.Accept x.origin x.index)) items
-    both [] fit all = tt
-    both (x ∷ items) fit all = (((fit.0.placed.origin, fit.0.placed.small), all.0, λ r. refl), both items fit.1 all.1)
+    along : (logs : Logs) (p q : Standing) (b : Body) → GoesAlong setup logs me needs p b → GoesAlong setup logs me needs (record q { log = p.log; cut = p.cut }) b
+    along logs p q (body.Act inst) h = h
+    along logs p q (body.Out to r piece) h = h
+    along logs p q (body.Accept from at) h = h
 
--- what is next fits
-pub next_bodies : (setup : Setup) (logs : Logs) (me : ℕ) (bodies : List Body) (p : Standing) → AreNext setup logs me p (items_for me bodies p) → AllByRecursion (BodyFits setup) bodies
-next_bodies setup logs me [] p next = tt
-next_bodies setup logs me (b ∷ bodies) p next = (next.0.fits, next_bodies setup logs me bodies (logged me b p) next.1)
+    bare : (items : List LogItem) (p q : Standing) → AreNext setup logs me needs p items → AreNext setup logs me needs (record q { log = p.log; cut = p.cut }) items
+    bare [] p q next = tt
+    bare (x ∷ items) p q next = (record { is = next.0.is; fits = next.0.fits; allowed = next.0.allowed; along = along (slice_set logs me p.log) p q x.body next.0.along }, bare items (logged me x.body p) q next.1)
 
--- ---- the items that answer wants
+-- items that are next are those that their bodies make
+pub next_items : (setup : Setup) (logs : Logs) (me : ℕ) (needs : List Need) (p : Standing) (items : List LogItem) → AreNext setup logs me needs p items → items_for me (map (λ (i : LogItem). i.body) items) p ≡ items
+next_items setup logs me needs p [] next = refl
+next_items setup logs me needs p (x ∷ items) next =
+    ap (λ (i : LogItem). i ∷ items_for me (map (λ (j : LogItem). j.body) items) (logged me x.body p)) (sym next.0.is) ∙ ap (λ (l : List LogItem). x ∷ l) (next_items setup logs me needs (logged me x.body p) items next.1)
 
--- what is given to each want in turn
-abbrev pub gives_for : Setup → Logs → ℕ → ℕ → List Want → Standing → List Body
-gives_for setup logs me to [] p = []
-gives_for setup logs me to (w ∷ wants) p =
-    given (piece_for (holding setup logs me p (need_of w)) w.ask) to w.right
-    ++ gives_for setup logs me to wants (logged_all me (given (piece_for (holding setup logs me p (need_of w)) w.ask) to w.right) p)
+-- first those of these bodies, and then others
+pub next_both : (setup : Setup) (logs : Logs) (me : ℕ) (needs : List Need) (bodies : List Body) (p : Standing) (items : List LogItem) → AreNext setup logs me needs p (items_for me bodies p) → AreNext setup logs me needs (logged_all me bodies p) items → AreNext setup logs me needs p (items_for me bodies p ++ items)
+next_both setup logs me needs [] p items first then' = then'
+next_both setup logs me needs (b ∷ bodies) p items first then' = (first.0, next_both setup logs me needs bodies (logged me b p) items first.1 then')
 
-pub answered_gives : (setup : Setup) (logs : Logs) (me to : ℕ) (wants : List Want) (p : Standing) → answered setup logs me to wants p ≡ logged_all me (gives_for setup logs me to wants p) p
-answered_gives setup logs me to [] p = refl
-answered_gives setup logs me to (w ∷ wants) p =
-    let bodies : List Body = given (piece_for (holding setup logs me p (need_of w)) w.ask) to w.right in
-    answered_gives setup logs me to wants (logged_all me bodies p) ∙ sym (logged_append me bodies (gives_for setup logs me to wants (logged_all me bodies p)) p)
+pub next_front : (setup : Setup) (logs : Logs) (me : ℕ) (needs : List Need) (bodies : List Body) (p : Standing) (items : List LogItem) → AreNext setup logs me needs p (items_for me bodies p ++ items) → AreNext setup logs me needs p (items_for me bodies p) × AreNext setup logs me needs (logged_all me bodies p) items
+next_front setup logs me needs [] p items next = (tt, next)
+next_front setup logs me needs (b ∷ bodies) p items next = let rest = next_front setup logs me needs bodies (logged me b p) items next.1 in ((next.0, rest.0), rest.1)
 
-logged_stamped : (me : ℕ) (bodies : List Body) (p : Standing) (stamp : ℕ) (sendings : List Sending) → logged_all me bodies (record p { stamp = stamp; sendings = sendings }) ≡ record (logged_all me bodies p) { stamp = stamp; sendings = sendings }
-logged_stamped me [] p stamp sendings = refl
-logged_stamped me (b ∷ bodies) p stamp sendings = logged_stamped me bodies (logged me b p) stamp sendings
+-- each of them fits
+pub next_fit : (setup : Setup) (logs : Logs) (me : ℕ) (needs : List Need) (p : Standing) (items : List LogItem) → AreNext setup logs me needs p items → AllByRecursion (λ i. BodyFits setup i.body) items
+next_fit setup logs me needs p [] next = tt
+next_fit setup logs me needs p (x ∷ items) next = (next.0.fits, next_fit setup logs me needs (logged me x.body p) items next.1)
 
--- whatever the stamp is, and what was sent
-pub gives_stamped : (setup : Setup) (logs : Logs) (me to : ℕ) (wants : List Want) (p : Standing) (stamp : ℕ) (sendings : List Sending) → gives_for setup logs me to wants (record p { stamp = stamp; sendings = sendings }) ≡ gives_for setup logs me to wants p
-gives_stamped setup logs me to [] p stamp sendings = refl
-gives_stamped setup logs me to (w ∷ wants) p stamp sendings =
-    let bodies : List Body = given (piece_for (holding setup logs me p (need_of w)) w.ask) to w.right in
-    ap (λ (q : Standing). bodies ++ gives_for setup logs me to wants q) (logged_stamped me bodies p stamp sendings) ∙ ap (λ (l : List Body). bodies ++ l) (gives_stamped setup logs me to wants (logged_all me bodies p) stamp sendings)
+-- ---- entries
 
-pub gives_few : (setup : Setup) (logs : Logs) (me to : ℕ) (wants : List Want) (p : Standing) → length (gives_for setup logs me to wants p) ≤ length wants
-gives_few setup logs me to [] p = omega arith
-gives_few setup logs me to (w ∷ wants) p =
-    let bodies : List Body = given (piece_for (holding setup logs me p (need_of w)) w.ask) to w.right in
-    let rest = gives_few setup logs me to wants (logged_all me bodies p) in
-    let one = few (piece_for (holding setup logs me p (need_of w)) w.ask) in
-    omega (arith, one, rest, length-append bodies (gives_for setup logs me to wants (logged_all me bodies p)))
-  where
-    few : (o : Option Piece) → length (given o to w.right) ≤ 1
-    few None = omega arith
-    few (Some pc) = omega arith
+-- an entry that there was is one still
+entry_then : (setup : Setup) (me : ℕ) (logs a b : Logs) (needs : List Need) (p : Standing) (s t : Table) (what : Body) → ((j : ℕ) → j ≢ me → log_at a j ≡ log_at b j) → KeepsEntries s t → GoesAlong setup logs me needs p what
+    → HasEntryFor setup what (taken_by a what) needs s → HasEntryFor setup what (taken_by b what) needs t
+entry_then setup me logs a b needs p s t (body.Act inst) same keeps along h = ((λ q is. keeps q (h.0 q is)), (λ need choice here one shared. keeps choice.right (h.1 need choice here one shared)))
+entry_then setup me logs a b needs p s t (body.Out to r piece) same keeps along h = keeps r h
+entry_then setup me logs a b needs p s t (body.Accept from at) same keeps along h = λ to r piece is. keeps r (h to r piece (ap (λ (l : List LogItem). body_of (slice_get l at)) (same from along.other) ∙ is))
 
--- a piece that is given of a right that is held
-pub record Gives (setup : Setup) (held_low : Cell → ℕ) (b : Body) : Type 0 where
-  pub fits : BodyFits setup b
-  pub out : (logs : Logs) (me : ℕ) → IsKnown logs me b
-  pub enough : (cell : Cell) → Contains (cells setup.spec) cell → body_loses setup.spec (right.Low cell) b ≤ held_low cell
+entered_then : (setup : Setup) (me : ℕ) (logs a b : Logs) (needs : List Need) (p : Standing) (s t : Table) (items : List LogItem) → ((j : ℕ) → j ≢ me → log_at a j ≡ log_at b j) → KeepsEntries s t → AreNext setup logs me needs p items
+    → AreEntered setup a needs s items → AreEntered setup b needs t items
+entered_then setup me logs a b needs p s t [] same keeps next h = tt
+entered_then setup me logs a b needs p s t (x ∷ items) same keeps next h =
+    (entry_then setup me (slice_set logs me p.log) a b needs p s t x.body same keeps next.0.along h.0, entered_then setup me logs a b needs (logged me x.body p) s t items same keeps next.1 h.1)
 
--- at most half of a count, rounded up
-count_given : (setup : Setup) (held_of_low : Cell → ℕ) (to : ℕ) (cell : Cell) (n : ℕ) → to < setup.replicas → RightFits setup (right.Low cell) → n < 2 ^ 64 → AllByRecursion (Gives setup held_of_low) (given (piece_for (held.Count (held_of_low cell)) (asked.Count n)) to (right.Low cell))
-count_given setup held_of_low to cell n peer among small = by_test (g == 0) refl
-  where
-    g : ℕ
-    g = min n ((held_of_low cell + 1) / 2)
+-- once more was logged, those that are next still have their entries
+pub entered_on : (setup : Setup) (known : Logs) (needs : List Need) (old new : Replica) (p : Standing) (logs : Logs) (items : List LogItem) → KnowsOwn known new → KeepsEntries old.table new.table → AreNext setup logs new.me needs p items
+    → AreEntered setup known needs old.table items → AreEntered setup (known_to new) needs new.table items
+entered_on setup known needs old new p logs items knows keeps next h =
+    entered_then setup new.me logs known (known_to new) needs p old.table new.table items (λ j ne. sym (ap (λ (l : Logs). log_at l j) knows ∙ get_or-set_other known new.me j (own_log new) [] ne)) keeps next h
 
-    low_is : (a b : Cell) → right.Low a ≡ right.Low b → a ≡ b
-    low_is a b h = cc
-
-    loses : (d : Cell) → Contains (cells setup.spec) d → (t : Bool) → same_right (right.Low cell) (right.Low d) ≡ t → cond t g 0 ≤ held_of_low d
-    loses d known true is = let same : cell ≡ d = low_is cell d (same_right_is setup.spec (right.Low cell) (right.Low d) known is) in subst (λ c. g ≤ held_of_low c) same (omega arith)
-    loses d known false is = omega arith
-
-    by_test : (t : Bool) → (g == 0) ≡ t → AllByRecursion (Gives setup held_of_low) (given (cond t None (Some (piece.Count g))) to (right.Low cell))
-    by_test true is = tt
-    by_test false is =
-        let some = eqb-false g 0 is in (
-          record {
-            fits = (peer, among, (refl, (let more : 1 ≤ g = omega (arith, some) in more), (let less : g < 2 ^ 64 = omega (arith, small) in less)));
-            out = λ logs me. tt;
-            enough = λ d known. loses d known (same_right (right.Low cell) (right.Low d)) refl;
-          },
-          tt,
-        )
-
--- of a right to lower a cell, to one who wants some
-low_given : (setup : Setup) (logs : Logs) (me to : ℕ) (p : Standing) (r : Right) (ask : WantAsk) → to < setup.replicas → RightFits setup r → IsLow setup.spec r → AsksCount ask
-    → AllByRecursion (Gives setup (λ cell. held_count setup logs me p.log (right.Low cell))) (given (piece_for (holding setup logs me p (record { right = r; amount = amount_of ask })) ask) to r)
-low_given setup logs me to p (right.Low cell) (asked.Count n) peer fits low counts = count_given setup (λ c. held_count setup logs me p.log (right.Low c)) to cell n peer fits counts
-low_given setup logs me to p (right.Low cell) (asked.Level l) peer fits low counts = absurd counts
-low_given setup logs me to p (right.Low cell) (asked.Points span) peer fits low counts = absurd counts
-low_given setup logs me to p (right.High cell) ask peer fits low counts = absurd low
-low_given setup logs me to p (right.Lock lock key) ask peer fits low counts = absurd low
-low_given setup logs me to p (right.Entry clause args literal) ask peer fits low counts = absurd low
-low_given setup logs me to p (right.Part part key) ask peer fits low counts = absurd low
-
--- in front of others that are next
-piece_next : (setup : Setup) (logs : Logs) (me to : ℕ) (r : Right) (o : Option Piece) (bodies : List Body) (p : Standing) → AllByRecursion (Gives setup (λ cell. held_count setup logs me p.log (right.Low cell))) (given o to r)
-    → AreNext setup logs me (logged_all me (given o to r) p) (items_for me bodies (logged_all me (given o to r) p)) → AreNext setup logs me p (items_for me (given o to r ++ bodies) p)
-piece_next setup logs me to r None bodies p all rest = rest
-piece_next setup logs me to r (Some pc) bodies p all rest = (record { is = refl; fits = all.0.fits; known = all.0.out logs me; enough = all.0.enough }, rest)
-
-pub gives_next : (setup : Setup) (logs : Logs) (me to : ℕ) (wants : List Want) (p : Standing) → HasLowsAlone setup → to < setup.replicas → AllByRecursion (WantFits setup) wants → AreNext setup logs me p (items_for me (gives_for setup logs me to wants p) p)
-gives_next setup logs me to [] p alone peer all = tt
-gives_next setup logs me to (w ∷ wants) p alone peer all =
-    let o : Option Piece = piece_for (holding setup logs me p (need_of w)) w.ask in
-    let q : Standing = logged_all me (given o to w.right) p in
-    let low = want_low setup w alone all.0 in
-    piece_next setup logs me to w.right o (gives_for setup logs me to wants q) p (low_given setup logs me to p w.right w.ask peer all.0.of low.of low.much) (gives_next setup logs me to wants q alone peer all.1)
-
--- ---- an item by its body
-
-pub loses_as : (setup : Setup) (logs : Logs) (me : ℕ) (p : Standing) (item : LogItem) (b : Body) → item.body ≡ b → IsNext setup logs me p item → (cell : Cell) → Contains (cells setup.spec) cell → body_loses setup.spec (right.Low cell) b ≤ held_count setup logs me p.log (right.Low cell)
-loses_as setup logs me p item b is next cell among = subst (λ (x : Body). body_loses setup.spec (right.Low cell) x ≤ held_count setup logs me p.log (right.Low cell)) is (next.enough cell among)
-
-pub log_inside : (logs : Logs) (i k : ℕ) → k < length (log_at logs i) → i < length logs
-log_inside [] i k h = absurd (omega (arith, h))
-log_inside (x ∷ logs) zero k h = omega arith
-log_inside (x ∷ logs) (suc i) k h = let rest = log_inside logs i k h in omega (arith, rest)
-
-pub item_there : (log : List LogItem) (k : ℕ) (x : LogItem) → k < length log → x ≡ get_or log k x → slice_get log k ≡ Some x
-item_there [] k x lt is = absurd (omega (arith, lt))
-item_there (y ∷ log) zero x lt is = ap (λ (z : LogItem). Some z) (sym is)
-item_there (y ∷ log) (suc k) x lt is = item_there log k x (omega (arith, lt)) is
-
-pub item_fits : (setup : Setup) (r : Replica) (from index : ℕ) (x : LogItem) → IsReplica setup r.me r → item_at (known_to r) from index ≡ Some x → BodyFits setup x.body
-item_fits setup r from index x own there = (each_at (ItemFits setup) (log_at (known_to r) from) index x (each_log (ItemFits setup) (known_to r) from own.fits) there).body
+pub entered_next : (setup : Setup) (b : Body) (old new : Replica) (items : List LogItem) → HasLogged setup b old new → HasPut old new → AreNext setup (known_to new) new.me old.needs (standing_of 0 [] new) items → AreEntered setup (known_to old) old.needs old.table items
+    → AreEntered setup (known_to new) new.needs new.table items
+entered_next setup b old new items h put next entered =
+    subst (λ (n : List Need). AreEntered setup (known_to new) n new.table items) (sym put.needs) (entered_on setup (known_to old) old.needs old new (standing_of 0 [] new) (known_to new) items h.knows put.kept next entered)

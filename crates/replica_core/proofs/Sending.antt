@@ -1,43 +1,26 @@
 -- A message that is sent fits the replica that it is sent to.
-use Rattle.std.proofs.Common.{refl, ◌≡◌, ◌≢◌, ℕ, ◌<◌, ◌≤◌, List, [], ◌∷◌, length, map, take, drop, sym, ap, subst, ◌∙◌, arith, length-take}
+use Rattle.std.proofs.Common.{refl, ◌≡◌, ◌≢◌, ℕ, ◌<◌, ◌≤◌, List, [], length, map, take, drop, sym, ap, subst, ◌∙◌, arith, length-take}
 use Rattle.std.specs.Prelude.{slice_index, slice_index_or}
 use Rattle.std.specs.List.{AllByRecursion}
 use Rattle.std.proofs.lemmas.List.{length-map}
 use Rattle.spec_model.specs.declared.plan.Setup.{Setup}
-use Rattle.spec_model.specs.declared.right.Right.{Right}
-use Rattle.spec_model.specs.declared.right.Held.{Held}
-use Rattle.spec_model.specs.declared.right.Held.TheVariants as held
 use Rattle.spec_model.specs.declared.right.Want.{Want}
-use Rattle.spec_model.specs.declared.right.WantAsk.{WantAsk}
-use Rattle.spec_model.specs.declared.right.WantAsk.TheVariants as asked
 use Rattle.spec_model.specs.declared.log.LogItem.{LogItem}
 use Rattle.run_model.specs.declared.message.Message.{Message}
 use Rattle.run_model.specs.Logs.{Logs}
 use Rattle.run_model.specs.Steps.{message_of}
-use Rattle.run_model.specs.Wants.{ask_less, need_of, want_less}
+use Rattle.run_model.specs.Wants.{want_less}
 use Rattle.run_model.specs.Worlds.{Standing, holding}
-use Rattle.run_model.specs.Fitting.{AreInRow, AskFits, ItemFits, MessageFits, WantFits}
+use Rattle.run_model.specs.Fitting.{AreInRow, ItemFits, MessageFits, WantFits}
 use Rattle.run_model.proofs.Lists.{each_take}
 use Rattle.run_model.proofs.Own.{own_drop}
 use Rattle.causal_store.specs.Stores.{cut_in}
 use Rattle.causal_store.proofs.Stored.{each_log}
 use Rattle.replica_core.specs.Replicas.{IsReplica, holds_of, known_to, own_log, standing_of}
 use Rattle.replica_core.specs.declared.replica.Replica.{Replica}
-use Rattle.replica_core.proofs.Needed.{each_dropped}
-use Rattle.replica_core.proofs.Received.{row_taken}
-
--- what is still asked for is no more than was asked for
-ask_less_fits : (setup : Setup) (r : Right) (have : Held) (ask : WantAsk) → AskFits setup r ask → AskFits setup r (ask_less have ask)
-ask_less_fits setup r (held.Count n) (asked.Count m) fits = (fits.0, omega (arith, fits.1))
-ask_less_fits setup r (held.Count n) (asked.Level l) fits = fits
-ask_less_fits setup r (held.Count n) (asked.Points span) fits = fits
-ask_less_fits setup r (held.Shares n m) ask fits = fits
-ask_less_fits setup r (held.Points missing run) ask fits = fits
-
--- the wants less what is held
-wants_less_fit : (setup : Setup) (logs : Logs) (me : ℕ) (p : Standing) (wants : List Want) → AllByRecursion (WantFits setup) wants → AllByRecursion (WantFits setup) (map (want_less (holding setup logs me p)) wants)
-wants_less_fit setup logs me p [] all = tt
-wants_less_fit setup logs me p (want ∷ wants) all = (record { of = all.0.of; much = ask_less_fits setup want.right (holding setup logs me p (need_of want)) want.ask all.0.much }, wants_less_fit setup logs me p wants all.1)
+use Rattle.replica_core.proofs.Applied.{row_taken}
+use Rattle.message_laws.proofs.Lists.{each_dropped}
+use Rattle.message_laws.proofs.Wanted.{wants_less_fit}
 
 -- a replica whose log and wants fit
 pub record CanSend (setup : Setup) (me : ℕ) (p : Standing) : Type 0 where
@@ -62,7 +45,7 @@ message_fits setup logs me to number stamp p h other =
       first = seen;
       row = row_taken me seen 16 rest (own_drop me 0 seen p.log seen (omega arith) h.own);
       few_items = omega (arith, length-take 16 rest);
-      wants = wants_less_fit setup logs me p p.wants h.wants;
+      wants = wants_less_fit setup (holding setup logs me p) p.wants h.wants;
       few_wants = omega (arith, length-map p.wants (want_less (holding setup logs me p)), h.few);
     }
 
@@ -74,10 +57,10 @@ sent_fits setup r to number stamp cut items wants own other cut_is items_are wan
     let p : Standing = standing_of 0 [] r in
     let message : List ℕ → List LogItem → List Want → Message = λ cut items wants. record { from = r.me; to = to; number = number; stamp = stamp; cut = cut; items = items; wants = wants } in
     let fits = message_fits setup (known_to r) r.me to number stamp p (record {
-      place = own.within;
-      wide = ap length own.store.counts ∙ length-map (known_to r) (λ (l : List LogItem). length l) ∙ own.store.whole;
-      log = each_log (ItemFits setup) (known_to r) r.me own.fits;
-      own = own.own;
+      place = own.view.within;
+      wide = own.view.cut;
+      log = each_log (ItemFits setup) (known_to r) r.me own.view.fits;
+      own = own.view.own;
       wants = own.wants;
       few = own.few_wants;
     }) other in

@@ -1,17 +1,16 @@
--- What is held is all of rights to lower cells.
-use Rattle.std.proofs.Common.{◌≡◌, List, filter, map, sym}
-use Rattle.std.specs.List.{flat_map}
+-- What a replica shows of its state.
+use Rattle.std.proofs.Common.{◌≡◌, ℕ, zero, suc, ◌<◌, List, [], ◌∷◌, length, filter, get_or, map, refl}
+use Rattle.std.specs.Prelude.{Contains, Some, slice_get}
+use Rattle.std.proofs.lemmas.Option.{same_Some, slice_get_within}
 use Rattle.spec_model.specs.declared.plan.Setup.{Setup}
+use Rattle.spec_model.specs.declared.spec.Spec.{Spec}
 use Rattle.spec_model.specs.declared.instance.Atom.{Atom}
-use Rattle.spec_model.specs.AllRights.{rights_of}
+use Rattle.spec_model.specs.declared.instance.Cell.{Cell}
 use Rattle.spec_model.specs.Universe.{atoms, cells}
+use Rattle.effect_model.specs.Laws.{UniverseIsAll}
 use Rattle.run_model.specs.declared.history.CellValue.{CellValue}
-use Rattle.run_model.specs.Finals.{shown}
-use Rattle.replica_core.specs.Tables.{HasLowsAlone}
-use Rattle.replica_core.specs.Replicas.{known_to, own_log}
-use Rattle.replica_core.specs.Shown.{is_true_now, low_hold, value_now}
+use Rattle.replica_core.specs.Shown.{is_true_now, value_now}
 use Rattle.replica_core.specs.declared.replica.Replica.{Replica}
-use Rattle.replica_core.proofs.Lows.{lows_shown}
 
 abbrev pub truths_now : Setup → Replica → List Atom
 truths_now setup r = filter (is_true_now setup.spec r) (atoms setup.spec)
@@ -19,6 +18,14 @@ truths_now setup r = filter (is_true_now setup.spec r) (atoms setup.spec)
 abbrev pub values_now : Setup → Replica → List CellValue
 values_now setup r = map (value_now setup.spec r) (cells setup.spec)
 
--- what is shown is what is held of the rights to lower cells
-pub lows_alone : (setup : Setup) (r : Replica) → HasLowsAlone setup → flat_map (low_hold setup r) (cells setup.spec) ≡ flat_map (shown setup (known_to r) r.me (own_log r)) (rights_of setup)
-lows_alone setup r alone = sym (lows_shown setup (shown setup (known_to r) r.me (own_log r)) alone)
+-- a cell of the universe is of a declared number
+pub cell_known : UniverseIsAll → (spec : Spec) (i : ℕ) (cell : Cell) → slice_get (cells spec) i ≡ Some cell → cell.num < length spec.nums
+cell_known law spec i cell is = (((law spec).1 cell).those_that_fit.0 (contains_at (cells spec) i cell is)).known
+  where
+    get_or_from : (xs : List Cell) (i : ℕ) (x : Cell) → slice_get xs i ≡ Some x → get_or xs i x ≡ x
+    get_or_from [] i x is = refl
+    get_or_from (y ∷ xs) zero x is = same_Some y x is
+    get_or_from (y ∷ xs) (suc i) x is = get_or_from xs i x is
+
+    contains_at : (xs : List Cell) (i : ℕ) (x : Cell) → slice_get xs i ≡ Some x → Contains xs x
+    contains_at xs i x is = (i, slice_get_within xs i x is, get_or_from xs i x is)

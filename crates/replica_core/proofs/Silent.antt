@@ -1,9 +1,9 @@
--- A message of which nothing is heeded.
-use Rattle.std.proofs.Common.{◌≡◌, ◌⊎◌, inl, inr, ℕ, zero, suc, List, [], ◌∷◌, ◌++◌, length, max, replicate, refl, sym, ap, subst, ◌∙◌, arith, length-append}
+-- What is heeded of a message: one that fits, or nothing.
+use Rattle.std.proofs.Common.{◌≡◌, ◌⊎◌, inl, inr, ℕ, zero, suc, ◌≤◌, List, [], ◌∷◌, ◌++◌, length, max, replicate, take, refl, sym, ap, subst, ◌∙◌, arith, length-append, length-take}
 use Rattle.std.specs.Prelude.{slice_index_or, slice_set}
 use Rattle.std.specs.List.{AllByRecursion}
-use Rattle.std.proofs.lemmas.List.{append-nil}
 use Rattle.spec_model.specs.declared.plan.Setup.{Setup}
+use Rattle.spec_model.specs.declared.right.Want.{Want}
 use Rattle.spec_model.specs.declared.log.LogItem.{LogItem}
 use Rattle.run_model.specs.declared.message.Message.{Message}
 use Rattle.run_model.specs.declared.step.Outcome.{Outcome}
@@ -11,19 +11,17 @@ use Rattle.run_model.specs.declared.step.Outcome.TheVariants as outcomes
 use Rattle.run_model.specs.Logs.{Logs}
 use Rattle.run_model.specs.Wants.{still_wanted}
 use Rattle.run_model.specs.Worlds.{Standing, joined, no_cut}
-use Rattle.run_model.specs.Steps.{accepts_of, received}
-use Rattle.run_model.specs.Fitting.{MessageFits}
-use Rattle.replica_core.specs.Views.{standing_in}
-use Rattle.replica_core.specs.Decisions.{IsTaken, TakesHeeded}
-use Rattle.replica_core.specs.Heeded.{Heeds, IsAddressed, silent}
-use Rattle.replica_core.specs.Replicas.{HasLoggedAll, HasTaken, IsReplica, holds_of, known_to, own_log, standing_of, view_of, with_items}
-use Rattle.replica_core.specs.declared.decision.Taken.{Taken}
+use Rattle.run_model.specs.Steps.{accepts_of, dropped, received}
+use Rattle.run_model.specs.Fitting.{WantFits}
+use Rattle.message_laws.specs.Heeded.{AreFitting, Heeds, IsAddressed, IsPartOf, silent, with_items}
+use Rattle.message_laws.specs.Views.{standing_in}
+use Rattle.message_drafts.specs.Taking.{IsTaken, TakesHeeded}
+use Rattle.message_drafts.specs.declared.taken.Taken.{Taken}
+use Rattle.replica_core.specs.Decisions.{IsHeeded}
+use Rattle.replica_core.specs.Replicas.{HasTaken, IsReplica, holds_of, known_to, own_log, standing_of, view_of}
 use Rattle.replica_core.specs.declared.replica.Replica.{Replica}
-use Rattle.replica_core.proofs.Alike.{HasGrown, row_early}
-use Rattle.replica_core.proofs.Finished.{Drops, dropped_own, has_taken}
-use Rattle.replica_core.proofs.Changes.{set_back}
-use Rattle.replica_core.proofs.Looking.{heeded_fits}
-use Rattle.replica_core.proofs.Received.{HasReceived}
+use Rattle.replica_core.proofs.Doing.{dropped_own}
+use Rattle.replica_core.proofs.Items.{set_back, with_none}
 
 -- a cut of nothing tells nothing new
 joined_nothing : (xs : List ℕ) (n : ℕ) → length xs ≡ n → joined xs (replicate n 0) ≡ xs
@@ -38,33 +36,33 @@ told_nothing n [] from all = refl
 told_nothing n (cut ∷ told) zero all = ap (λ (c : List ℕ). c ∷ told) (joined_nothing cut n all.0)
 told_nothing n (cut ∷ told) (suc from) all = ap (λ (l : List (List ℕ)). cut ∷ l) (told_nothing n told from all.1)
 
--- no items leave the logs as they are
-pub with_none : (from : ℕ) (known : Logs) → with_items from [] known ≡ known
-with_none from [] = refl
-with_none zero (log ∷ known) = ap (λ (l : List LogItem). l ∷ known) (append-nil log)
-with_none (suc from) (log ∷ known) = ap (λ (l : Logs). log ∷ l) (with_none from known)
-
-pub logged_none : (setup : Setup) (r : Replica) → IsReplica setup r.me r → HasLoggedAll setup [] r r
-logged_none setup r own = record { own = own; stands = λ stamp sendings. refl; knows = sym (set_back (known_to r) r.me) }
-
-received_nothing : (setup : Setup) (message : Message) (r : Replica) → IsReplica setup r.me r → HasReceived setup (silent setup.replicas message) r [] r
-received_nothing setup message r own = record {
-  own = own;
-  admitted = record { rest = []; prefix = refl; ready = tt; longest = tt };
-  few = omega arith;
-  grown = omega arith;
-  stands = λ stamp sendings. ap (λ (told : List (List ℕ)). let p : Standing = record (standing_of stamp sendings r) { told = told } in p) (sym (told_nothing setup.replicas r.told message.from own.told_each));
-  knows = sym (set_back (known_to r) r.me) ∙ ap (λ (l : Logs). slice_set l r.me (own_log r)) (sym (with_none message.from (known_to r)));
-  longer = subst (λ (l : Logs). HasGrown l r) (sym (with_none message.from (known_to r))) (record { more = []; log = sym (append-nil (own_log r)); early = row_early r.me 0 (length (own_log r)) (own_log r) own.own (omega arith) });
-}
-
 -- it was taken once the wants that are met are dropped
 took_nothing : (setup : Setup) (message : Message) (r new : Replica) → IsReplica setup r.me r → new ≡ record r { wants = still_wanted setup.replicas (holds_of setup r) r.wants }
     → HasTaken setup (silent setup.replicas message) r (outcomes.Took message.number 0 0 0) new
 took_nothing setup message r new own is =
-    let drops : Drops setup (silent setup.replicas message) r r new [] = record { received = received_nothing setup message r own; wants = still_wanted setup.replicas (holds_of setup r) r.wants; wants_are = refl; left_is = is } in
-    let left : IsReplica setup new.me new = subst (λ (s : Replica). IsReplica setup s.me s) (sym is) (dropped_own setup r (still_wanted setup.replicas (holds_of setup r) r.wants) own refl) in
-    has_taken setup (silent setup.replicas message) r r new new [] drops (logged_none setup new left) (omega arith)
+    let me : ℕ = r.me in
+    let known : Logs = known_to r in
+    let quiet : Message = silent setup.replicas message in
+    let left : Replica = record r { wants = still_wanted setup.replicas (holds_of setup r) r.wants } in
+    let none : with_items message.from [] known ≡ known = with_none message.from known in
+    subst (HasTaken setup quiet r (outcomes.Took message.number 0 0 0)) (sym is) (record {
+      own = dropped_own setup r left own refl;
+      applied = [];
+      takes = λ stamp sendings.
+          let p : Standing = standing_of stamp sendings r in
+          let told : received me quiet [] p ≡ p = ap (λ (t : List (List ℕ)). let q : Standing = record p { told = t } in q) (told_nothing setup.replicas r.told message.from own.told_each) in
+          record {
+            gave = 0;
+            before_answers = standing_of stamp sendings left;
+            admitted = record { rest = []; prefix = refl; ready = tt; longest = tt };
+            before_is = sym (ap (λ (l : Logs). dropped setup l me (received me quiet [] p)) none ∙ ap (dropped setup known me) told);
+            becomes = refl;
+            gave_is = omega arith;
+            outcome_is = refl;
+          };
+      knows = sym (set_back known me) ∙ ap (λ (l : Logs). slice_set l me (own_log r)) (sym none);
+      grown = omega arith;
+    })
 
 none_of : (xs ys : List LogItem) → [] ≡ xs ++ ys → xs ≡ []
 none_of [] ys is = refl
@@ -73,25 +71,6 @@ none_of (x ∷ xs) ys is = absurd cc
 no_items : (xs : List LogItem) → length xs ≡ 0 → xs ≡ []
 no_items [] long = refl
 no_items (x ∷ xs) long = absurd (omega (arith, long))
-
--- so that is what it decides
-pub takes_nothing : (setup : Setup) (message : Message) (r : Replica) (taken : Taken) → taken.batch.items ≡ [] → taken.applied ≡ 0 → taken.accepted ≡ 0 → taken.gave ≡ 0 → IsTaken setup (silent setup.replicas message) (view_of r) taken
-takes_nothing setup message r taken none applied accepted gave = record {
-  applied = [];
-  own = [];
-  after = standing_in (view_of r);
-  takes = record {
-    gave = 0;
-    before_answers = standing_in (view_of r);
-    admitted = record { rest = []; prefix = refl; ready = tt; longest = tt };
-    before_is = refl;
-    becomes = refl;
-    gave_is = omega arith;
-    outcome_is = ap (λ n. outcomes.Took message.number n taken.accepted taken.gave) applied ∙ ap (λ n. outcomes.Took message.number 0 n taken.gave) accepted ∙ ap (outcomes.Took message.number 0 0) gave;
-  };
-  longer = sym (append-nil (own_log r));
-  batch = none;
-}
 
 -- nothing is in the batch of such a message
 pub nothing_taken : (setup : Setup) (message : Message) (r : Replica) (taken : Taken) → IsTaken setup (silent setup.replicas message) (view_of r) taken → (taken.batch.items ≡ []) × (outcomes.Took message.number 0 0 0 ≡ outcomes.Took message.number taken.applied taken.accepted taken.gave)
@@ -115,23 +94,47 @@ nothing_done setup message r new taken own is decided = subst (λ (o : Outcome).
 
 -- ---- what is decided on a message that may be any
 
--- it is what is decided on a message that fits, or nothing
-pub heeded_or_nothing : (setup : Setup) (r : Replica) (message : Message) (taken : Taken) → TakesHeeded setup (view_of r) message taken
-    → ((heeded : Message) × MessageFits setup r.me heeded × IsTaken setup heeded (view_of r) taken) ⊎ (taken.batch.items ≡ [])
+-- wants of which those that fit are kept
+fitting_fit : (setup : Setup) (wants fitting : List Want) → AreFitting setup wants fitting → AllByRecursion (WantFits setup) fitting × (length fitting ≤ length wants)
+fitting_fit setup [] fitting none = (subst (AllByRecursion (WantFits setup)) (sym none) tt, omega (arith, ap length none))
+fitting_fit setup (want ∷ wants) fitting (inl (fits, rest, is, behind)) =
+    let more = fitting_fit setup wants rest behind in
+    (subst (AllByRecursion (WantFits setup)) (sym is) (fits, more.0), omega (arith, ap length is, more.1))
+fitting_fit setup (want ∷ wants) fitting (inr (misfit, behind)) = let more = fitting_fit setup wants fitting behind in (more.0, omega (arith, more.1))
+
+-- what is heeded of a message that is addressed is heeded whole
+is_heeded : (setup : Setup) (r : Replica) (message heeded : Message) → IsAddressed setup r.me message → IsPartOf setup (view_of r) message heeded → IsHeeded setup r heeded
+is_heeded setup r message heeded addressed part =
+    let wants = fitting_fit setup (take 8 message.wants) heeded.wants part.wants in
+    let items : List LogItem = heeded.items in
+    subst (IsHeeded setup r) (sym part.all_else) (record {
+      fits = record {
+        sender = addressed.sender;
+        other = addressed.other;
+        receiver = addressed.receiver;
+        cut = addressed.cut;
+        items = part.items.may.fits;
+        first = part.items.may.first;
+        row = part.items.may.row;
+        few_items = omega (arith, ap length part.items.front, length-append items part.items.rest, length-take 16 message.items);
+        wants = wants.0;
+        few_wants = omega (arith, wants.1, length-take 8 message.wants);
+      };
+      may = part.items.may;
+    })
+
+-- it is what is decided on a message that is heeded, or nothing
+pub heeded_or_nothing : (setup : Setup) (r : Replica) (message : Message) (taken : Taken) → TakesHeeded setup (view_of r) message taken → ((heeded : Message) × IsHeeded setup r heeded × IsTaken setup heeded (view_of r) taken) ⊎ (taken.batch.items ≡ [])
 heeded_or_nothing setup r message taken takes = either takes.heeds takes.takes
   where
-    either : Heeds setup (view_of r) message takes.heeded → IsTaken setup takes.heeded (view_of r) taken → ((heeded : Message) × MessageFits setup r.me heeded × IsTaken setup heeded (view_of r) taken) ⊎ (taken.batch.items ≡ [])
-    either (inl (addressed, part)) decided = inl (takes.heeded, heeded_fits setup r message takes.heeded addressed part, decided)
+    either : Heeds setup (view_of r) message takes.heeded → IsTaken setup takes.heeded (view_of r) taken → ((heeded : Message) × IsHeeded setup r heeded × IsTaken setup heeded (view_of r) taken) ⊎ (taken.batch.items ≡ [])
+    either (inl (addressed, part)) decided = inl (takes.heeded, is_heeded setup r message takes.heeded addressed part, decided)
     either (inr (astray, is)) decided = inr (nothing_taken setup message r taken (subst (λ (m : Message). IsTaken setup m (view_of r) taken) is decided)).0
 
 -- what is heeded of a message that is addressed, and of one that isn't
-pub heeded_part : (setup : Setup) (r : Replica) (message heeded : Message) → IsAddressed setup r.me message → Heeds setup (view_of r) message heeded → (heeded.from ≡ message.from) × (heeded.cut ≡ message.cut) × (heeded.number ≡ message.number) × MessageFits setup r.me heeded
-heeded_part setup r message heeded addressed (inl (here, part)) = (
-  ap (λ (m : Message). m.from) part.all_else,
-  ap (λ (m : Message). m.cut) part.all_else,
-  ap (λ (m : Message). m.number) part.all_else,
-  heeded_fits setup r message heeded here part,
-)
+pub heeded_part : (setup : Setup) (r : Replica) (message heeded : Message) → IsAddressed setup r.me message → Heeds setup (view_of r) message heeded → (heeded.from ≡ message.from) × (heeded.cut ≡ message.cut) × (heeded.number ≡ message.number) × IsHeeded setup r heeded
+heeded_part setup r message heeded addressed (inl (here, part)) =
+    (ap (λ (m : Message). m.from) part.all_else, ap (λ (m : Message). m.cut) part.all_else, ap (λ (m : Message). m.number) part.all_else, is_heeded setup r message heeded here part)
 heeded_part setup r message heeded addressed (inr (astray, is)) = absurd (astray addressed)
 
 pub heeded_nothing : (setup : Setup) (r : Replica) (message heeded : Message) → (IsAddressed setup r.me message → ⊥) → Heeds setup (view_of r) message heeded → heeded ≡ silent setup.replicas message

@@ -1,9 +1,6 @@
-pub mod Tables
-pub mod Views
 pub mod Replicas
+pub mod Next
 pub mod Decisions
-pub mod Drafts
-pub mod Heeded
 pub mod Recovered
 pub mod Shown
 pub mod Laws

@@ -9,7 +9,7 @@ use Rattle.causal_store.specs.Agreeing.{with_all}
 use Rattle.replica_core.specs.Decisions.{IsDecided}
 use Rattle.run_model.specs.Logs.{Logs}
 use Rattle.replica_core.specs.Replicas.{IsReplica, known_to, own_log}
-use Rattle.replica_core.specs.Views.{seeing}
+use Rattle.message_laws.specs.Views.{seeing}
 use Rattle.replica_core.specs.declared.replica.Replica.{Replica}
 
 -- the items of a batch were applied and logged again; what is wanted and was told is as it was

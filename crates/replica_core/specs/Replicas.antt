@@ -1,27 +1,23 @@
 -- A replica of the code, as the definitions of runs see it.
-use Rattle.std.specs.Prelude.{◌≡◌, ◌≢◌, ℕ, ◌+◌, ◌<◌, ◌≤◌, ◌^◌, List, ◌++◌, length, slice_set, sum_by, Contains}
+use Rattle.std.specs.Prelude.{◌≡◌, ℕ, ◌+◌, ◌<◌, ◌≤◌, List, [], length, slice_set}
 use Rattle.std.specs.List.{AllByRecursion}
 use Rattle.spec_model.specs.declared.plan.Setup.{Setup}
-use Rattle.spec_model.specs.declared.instance.Cell.{Cell}
 use Rattle.spec_model.specs.declared.instance.Inst.{Inst}
-use Rattle.spec_model.specs.declared.right.Right.TheVariants as right
 use Rattle.spec_model.specs.declared.log.Body.{Body}
-use Rattle.spec_model.specs.declared.log.Body.TheVariants as body
 use Rattle.spec_model.specs.declared.log.LogItem.{LogItem}
-use Rattle.spec_model.specs.Universe.{cells}
+use Rattle.spec_model.specs.declared.right.Need.{Need}
+use Rattle.spec_model.specs.declared.right.Held.{Held}
 use Rattle.run_model.specs.declared.message.Message.{Message}
 use Rattle.run_model.specs.declared.step.Outcome.{Outcome}
 use Rattle.run_model.specs.Logs.{Logs, log_at}
-use Rattle.spec_model.specs.declared.right.Need.{Need}
-use Rattle.spec_model.specs.declared.right.Held.{Held}
-use Rattle.run_model.specs.Rights.{body_gains, body_loses, even_share, first_count}
 use Rattle.run_model.specs.Holding.{held_of}
 use Rattle.run_model.specs.Worlds.{Standing, Sending, logged, logged_all}
 use Rattle.run_model.specs.Steps.{Requests, Takes}
-use Rattle.run_model.specs.Fitting.{AreInRow, IsPlaced, ItemFits, WantFits}
+use Rattle.run_model.specs.Fitting.{AreInRow, IsPlaced, SetupFits, WantFits}
 use Rattle.causal_store.specs.Stores.{IsStore, cut_in, logs_in}
-use Rattle.replica_core.specs.Views.{View}
-use Rattle.replica_core.specs.Tables.{AreHeld, HasLowsAlone}
+use Rattle.rights_table.specs.Whole.{HasAll}
+use Rattle.message_laws.specs.Heeded.{with_items}
+use Rattle.message_laws.specs.Views.{IsView, View}
 use Rattle.replica_core.specs.declared.replica.Replica.{Replica}
 
 -- the logs that it knows
@@ -51,37 +47,22 @@ standing_of stamp sendings r = record {
 abbrev pub holds_of : Setup → Replica → Need → Held
 holds_of setup r need = held_of setup (known_to r) r.me (own_log r) need
 
--- what the body accepts is an item of another log that is known
-abbrev pub IsKnown : Logs → ℕ → Body → Type 0
-IsKnown known me (body.Act inst) = Unit {0}
-IsKnown known me (body.Out to r piece) = Unit {0}
-IsKnown known me (body.Accept from at) = (from ≢ me) × (at < length (log_at known from))
-
--- no more was lost of any right to lower a cell than there was and was gained
-abbrev pub AreCovered : Setup → Logs → ℕ → List LogItem → Type 0
-AreCovered setup known me own = (cell : Cell) → Contains (cells setup.spec) cell
-    → sum_by (λ item. body_loses setup.spec (right.Low cell) item.body) own
-    ≤ even_share (first_count setup.spec (right.Low cell)) setup.replicas me + sum_by (λ item. body_gains setup.spec known (right.Low cell) item.body) own
-
--- replica me, of a setup with rights to lower cells alone: its own log, what it applied, what it holds, wants and was told
+-- replica me of a setup without partitions: the logs that it knows, what it holds, wants and was told
 pub record IsReplica (setup : Setup) (me : ℕ) (r : Replica) : Type 0 where
   pub me_is : r.me ≡ me
-  pub within : me < setup.replicas
-  pub alone : HasLowsAlone setup
+  pub setup_fits : SetupFits setup
+  pub partless : setup.plan.parts ≡ []
   pub store : IsStore setup.replicas r.store
-  pub fits : AllByRecursion (AllByRecursion (ItemFits setup)) (known_to r)
-  pub own : AreInRow me 0 (log_at (known_to r) me)
-  pub known : AllByRecursion (λ item. IsKnown (known_to r) me item.body) (log_at (known_to r) me)
-  pub covered : AreCovered setup (known_to r) me (log_at (known_to r) me)
-  pub holds : AreHeld setup (known_to r) me (log_at (known_to r) me) r.lows
+  pub view : IsView setup (view_of r)
+  pub all : HasAll setup (known_to r) r.me (own_log r) r.table
   pub wants : AllByRecursion (WantFits setup) r.wants
   pub few_wants : length r.wants ≤ 8
   pub told : length r.told ≡ setup.replicas
   pub told_each : AllByRecursion (λ cut. length cut ≡ setup.replicas) r.told
 
--- it may log so many more items of its own
+-- it may log so many more items of its own: at most 2 ^ 22
 abbrev pub HasRoom : ℕ → Replica → Type 0
-HasRoom n r = length (own_log r) + n < 2 ^ 32
+HasRoom n r = length (own_log r) + n ≤ 4194304
 
 -- its own log has grown to this, and all else that it knows is as before
 abbrev pub KnowsOwn : Logs → Replica → Type 0
@@ -105,10 +86,6 @@ pub record HasAnswered (setup : Setup) (inst : Inst) (old : Replica) (outcome : 
   pub requests : (stamp : ℕ) (sendings : List Sending) → Requests setup (known_to old) old.me inst (standing_of stamp sendings old) outcome (standing_of stamp sendings new)
   pub knows : KnowsOwn (known_to old) new
   pub grown : length (own_log new) ≤ length (own_log old) + 1
-
--- the logs that are known once these items of another log are applied
-abbrev pub with_items : ℕ → List LogItem → Logs → Logs
-with_items from applied known = slice_set known from (log_at known from ++ applied)
 
 -- these are the next items of another log, which the store may apply
 pub record CanLearn (r : Replica) (items : List LogItem) : Type 0 where

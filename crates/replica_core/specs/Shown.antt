@@ -1,18 +1,13 @@
 -- What a replica shows of itself.
-use Rattle.std.specs.Prelude.{List, [], Bool, is_some, if◌then◌else◌}
-use Rattle.spec_model.specs.declared.plan.Setup.{Setup}
+use Rattle.std.specs.Prelude.{Bool}
 use Rattle.spec_model.specs.declared.spec.Spec.{Spec}
 use Rattle.spec_model.specs.declared.instance.Atom.{Atom}
 use Rattle.spec_model.specs.declared.instance.Cell.{Cell}
-use Rattle.spec_model.specs.declared.right.Right.TheVariants as right
-use Rattle.spec_model.specs.Universe.{lower_bound}
 use Rattle.run_model.specs.declared.history.CellValue.{CellValue}
-use Rattle.run_model.specs.declared.history.Hold.{Hold}
 use Rattle.run_model.specs.Logs.{items_in}
 use Rattle.run_model.specs.States.{truth_of, value_of}
-use Rattle.run_model.specs.Finals.{shown}
 use Rattle.causal_store.specs.Stores.{cut_in}
-use Rattle.replica_core.specs.Replicas.{known_to, own_log}
+use Rattle.replica_core.specs.Replicas.{known_to}
 use Rattle.replica_core.specs.declared.replica.Replica.{Replica}
 
 -- the atom is true in the state of all that it has applied
@@ -22,7 +17,3 @@ is_true_now spec r atom = truth_of spec (items_in (cut_in r.store) (known_to r))
 -- what the cell is worth in that state
 abbrev pub value_now : Spec → Replica → Cell → CellValue
 value_now spec r cell = record { cell = cell; value = value_of spec (items_in (cut_in r.store) (known_to r)) cell }
-
--- what it holds of the rights to lower the cell, if that has a lower bound
-abbrev pub low_hold : Setup → Replica → Cell → List Hold
-low_hold setup r cell = if is_some (lower_bound setup.spec cell) then shown setup (known_to r) r.me (own_log r) (right.Low cell) else []

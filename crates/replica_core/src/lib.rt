@@ -2,23 +2,15 @@
 #![tactic(auto)]
 
 mod decision;
-mod draft;
-mod drafting;
-mod fitting;
-mod heeding;
 mod laws;
-mod pieces;
+mod readying;
 mod recovery;
 mod replica;
 mod reports;
 mod requesting;
-mod rights;
-mod spending;
 mod taking;
-mod wanting;
 
-pub use decision::{Decision, Taken};
-pub use laws::{
-    breaks_change_nothing, commits_more, holds_are_small, messages_are_heeded, messages_fit,
-};
+pub use decision::Decision;
+pub use laws::{breaks_change_nothing, commits_more};
+pub use message_drafts::Taken;
 pub use replica::Replica;

@@ -1,11 +1,9 @@
 //! A replica that is made again from what it committed.
 
-ghost use Rattle.std.specs.Prelude.{◌≡◌, ◌≢◌, ◌<◌, ◌≤◌, ◌++◌, All, IfOk, OnOk, length, slice_get, take, List, Some};
+ghost use Rattle.std.specs.Prelude.{◌≡◌, ◌≢◌, ◌<◌, ◌≤◌, [], All, IfOk, OnOk, length, slice_get, take, Some};
 ghost use Rattle.spec_model.specs.declared.log.LogItem.{LogItem as ItemOf};
-ghost use Rattle.spec_model.specs.Fits.{IsWellFormed};
-ghost use Rattle.run_model.specs.declared.batch.Batch.{Batch as BatchOf};
+ghost use Rattle.run_model.specs.Fitting.{SetupFits};
 ghost use Rattle.causal_store.specs.Stores.{IsShort};
-ghost use Rattle.replica_core.specs.Tables.{HasLowsAlone};
 
 use crate::replica::Replica;
 use ind_base::NoMemory;
@@ -34,28 +32,26 @@ impl Replica {
 
     /// Applies and logs again what it decided on, for which room was made.
     fn replay(&mut self, setup: &Setup, batch: &Batch)
-        requires well_formed { IsWellFormed setup.now.spec }
         requires own { IsReplica setup.now self.old.me self.old }
         requires decided { IsDecided setup.now (view_of self.old) batch.now }
         requires room { HasRoom 24 self.old }
-        requires ready { IsReadyFor self.old batch.now.items }
+        requires ready { IsReadyFor setup.now self.old batch.now.items }
         ensures { HasReplayed setup.now batch.now.items self.old self.new }
     {
         let items = batch.items.as_slice();
         let (others, own) = items.split_at(self.others(items));
-        self.learn(&setup.spec, others);
+        self.learn(setup, others);
         self.put_all(setup, own);
     }
 
     /// Makes room for what it decided on, and applies and logs it again.
-    fn replay_ready(&mut self, setup: &Setup, batch: &Batch) -> Result<(), NoMemory>
-        requires well_formed { IsWellFormed setup.now.spec }
+    fn replay_ready(&mut self, alloc: Global, setup: &Setup, batch: &Batch) -> Result<(), NoMemory>
         requires own { IsReplica setup.now self.old.me self.old }
         requires decided { IsDecided setup.now (view_of self.old) batch.now }
         requires room { HasRoom 24 self.old }
         ensures { OnOk result (HasReplayed setup.now batch.now.items self.old self.new) }
     {
-        self.ready(setup, batch)?;
+        self.ready(alloc, setup, batch)?;
         self.replay(setup, batch);
         Ok(())
     }
@@ -69,8 +65,8 @@ impl Replica {
         me: u32,
         batches: &[Batch],
     ) -> Result<Replica, NoMemory>
-        requires well_formed { IsWellFormed setup.now.spec }
-        requires alone { HasLowsAlone setup.now }
+        requires setup { SetupFits setup.now }
+        requires partless { setup.now.plan.parts ≡ [] }
         requires place { me < setup.now.replicas }
         requires few { setup.now.replicas ≤ 16 }
         requires few_batches { length batches.now ≤ 100000 }
@@ -80,7 +76,7 @@ impl Replica {
     {
         let mut replica = Replica::begin(alloc, setup, me)?;
         for batch in batches {
-            replica.replay_ready(setup, batch)?;
+            replica.replay_ready(alloc, setup, batch)?;
         }
         Ok(replica)
     }

@@ -1,26 +1,21 @@
 //! What a replica shows of itself.
 
-ghost use Rattle.std.specs.Prelude.{◌≡◌, ◌≢◌, ◌+◌, ◌<◌, ◌≤◌, ◌^◌, ◌++◌, ◌∷◌, [], IfOk, OnOk, filter, length, map, Contains};
-ghost use Rattle.std.specs.List.{flat_map};
+ghost use Rattle.std.specs.Prelude.{◌≡◌, ◌++◌, ◌∷◌, [], IfOk, OnOk, filter, length, map};
 ghost use Rattle.spec_model.specs.Fits.{IsWellFormed};
 ghost use Rattle.spec_model.specs.Universe.{atoms, cells};
-ghost use Rattle.spec_model.specs.declared.instance.Cell.{Cell as CellOf};
-ghost use Rattle.spec_model.specs.declared.right.Right.TheVariants as right;
 ghost use Rattle.run_model.specs.Finals.{final_of};
-ghost use Rattle.run_model.specs.Rights.{held_count};
 ghost use Rattle.causal_store.specs.Stores.{IsShort, IsStore};
 
 use crate::replica::Replica;
-use crate::spending::is_bounded;
 use effect_model::{atom_at, atom_count, cell_at, cell_count, universe_is_all};
 use ind_base::{List, NoMemory};
-use run_model::{CellValue, Final, Hold};
-use spec_model::{Atom, Cell, Right, Setup, Spec};
+use run_model::{CellValue, Final};
+use spec_model::{Atom, Setup, Spec};
 use std::alloc::Global;
 
 impl Replica {
-    ghost use Rattle.replica_core.specs.Replicas.{HasRoom, IsReplica, known_to, own_log, standing_of};
-    ghost use Rattle.replica_core.specs.Shown.{low_hold, is_true_now, value_now};
+    ghost use Rattle.replica_core.specs.Replicas.{IsReplica, known_to, standing_of};
+    ghost use Rattle.replica_core.specs.Shown.{is_true_now, value_now};
 
     /// Adds an atom that is true.
     fn push_truth(&self, spec: &Spec, truths: &mut List<Atom>, atom: &Atom) -> Result<(), NoMemory>
@@ -66,56 +61,17 @@ impl Replica {
         Ok(values)
     }
 
-    /// Adds the rights to lower a cell that are held, if there are any.
-    fn push_hold(&self, setup: &Setup, holds: &mut List<Hold>, cell: &Cell) -> Result<(), NoMemory>
-        requires well_formed { IsWellFormed setup.now.spec }
-        requires own { IsReplica setup.now self.now.me self.now }
-        requires fits { Contains (cells setup.now.spec) cell.now }
-        requires room { HasRoom 0 self.now }
-        requires small { held_count setup.now (known_to self.now) self.now.me (own_log self.now) (right.Low cell.now) < 2 ^ 64 }
-        ensures { OnOk result (holds.new ≡ holds.old ++ low_hold setup.now self.now cell.now) }
-    {
-        let _so_far = holds.as_slice();
-        if !is_bounded(&setup.spec, cell.num) {
-            return Ok(());
-        }
-        let count = self.held(setup, cell) as u64;
-        if count == 0 {
-            return Ok(());
-        }
-        let right = Right::Low(*cell);
-        holds.push(Hold::Count { right, count })
-    }
-
-    /// The rights that are held.
-    fn all_held(&self, alloc: Global, setup: &Setup) -> Result<List<Hold>, NoMemory>
-        requires well_formed { IsWellFormed setup.now.spec }
-        requires own { IsReplica setup.now self.now.me self.now }
-        requires room { HasRoom 0 self.now }
-        requires small { (cell : CellOf) → Contains (cells setup.now.spec) cell → held_count setup.now (known_to self.now) self.now.me (own_log self.now) (right.Low cell) < 2 ^ 64 }
-        ensures { IfOk result (λ l. l ≡ flat_map (low_hold setup.now self.now) (cells setup.now.spec)) }
-    {
-        let mut holds = List::new(alloc);
-        for place in 0..cell_count(&setup.spec) {
-            self.push_hold(setup, &mut holds, &cell_at(&setup.spec, place))?;
-        }
-        Ok(holds)
-    }
-
     /// What it has seen, which atoms are true by that, what each cell is worth, and what it holds.
     pub fn last(&self, alloc: Global, setup: &Setup) -> Result<Final, NoMemory>
-        requires well_formed { IsWellFormed setup.now.spec }
         requires own { IsReplica setup.now self.now.me self.now }
-        requires room { HasRoom 0 self.now }
         requires short { IsShort self.now.store }
-        requires small { (cell : CellOf) → Contains (cells setup.now.spec) cell → held_count setup.now (known_to self.now) self.now.me (own_log self.now) (right.Low cell) < 2 ^ 64 }
         ensures { IfOk result (λ f. f ≡ final_of setup.now (known_to self.now) self.now.me (standing_of 0 [] self.now)) }
     {
         Ok(Final {
             cut: self.store.cut(),
             truths: self.truths(alloc, &setup.spec)?,
             values: self.values(alloc, &setup.spec)?,
-            holds: self.all_held(alloc, setup)?,
+            holds: self.table.holds(alloc, setup)?,
         })
     }
 }

@@ -1,25 +1,27 @@
 //! What a replica does with a message.
 
-ghost use Rattle.std.specs.Prelude.{◌≡◌, ◌<◌, ◌++◌, ◌∷◌, [], List, length, slice_set, slice_index_or, Contains};
-ghost use Rattle.spec_model.specs.Fits.{IsWellFormed};
-ghost use Rattle.run_model.specs.Fitting.{MessageFits, WantFits};
-ghost use Rattle.run_model.specs.Levels.{is_met};
+ghost use Rattle.std.specs.Prelude.{◌≡◌, ◌<◌, ◌++◌, ◌∷◌, [], ℕ, IfOk, List, length, slice_set, slice_index_or};
 ghost use Rattle.spec_model.specs.declared.log.LogItem.{LogItem as ItemOf};
-ghost use Rattle.spec_model.specs.Universe.{cells};
-ghost use Rattle.run_model.specs.declared.step.Outcome.TheVariants as outcomes;
-ghost use Rattle.replica_core.specs.declared.decision.Taken.{Taken as TakenOf};
 ghost use Rattle.run_model.specs.declared.message.Message.{Message as MessageOf};
-ghost use Rattle.causal_store.specs.Agreeing.{with_all};
-ghost use Rattle.replica_core.specs.Tables.{IsLowWant, low_need};
-ghost use Rattle.run_model.specs.Wants.{need_of, still_wanted};
+ghost use Rattle.run_model.specs.declared.step.Outcome.TheVariants as outcomes;
+ghost use Rattle.run_model.specs.Fitting.{WantFits};
+ghost use Rattle.run_model.specs.Levels.{is_met};
+ghost use Rattle.run_model.specs.Wants.{need_of as needed, still_wanted};
 ghost use Rattle.run_model.specs.Worlds.{joined as joined_with};
+ghost use Rattle.causal_store.specs.Agreeing.{with_all};
+ghost use Rattle.causal_store.specs.Stores.{HasRoomFor};
+ghost use Rattle.message_laws.specs.Heeded.{Heeds};
+ghost use Rattle.message_drafts.specs.Taking.{IsTaken, TakesHeeded};
+ghost use Rattle.message_drafts.specs.declared.taken.Taken.{Taken as TakenOf};
 
-use crate::decision::Taken;
-use crate::fitting::is_addressed;
 use crate::replica::Replica;
-use ind_base::Cut;
+use ind_base::{Cut, NoMemory};
+use message_drafts::{Taken, is_addressed, take};
+use rights_table::{tables_learn, tables_tell};
+use rights_transfer::need_of;
 use run_model::Message;
-use spec_model::{Cell, LogItem, Right, Setup, Spec, Want, WantAsk};
+use spec_model::{LogItem, Setup, Spec, Want};
+use std::alloc::Global;
 
 /// The greater count at each place.
 fn joined(a: &Cut, b: &Cut) -> Cut
@@ -35,8 +37,29 @@ fn joined(a: &Cut, b: &Cut) -> Cut
 
 impl Replica {
     ghost use Rattle.replica_core.specs.Replicas.{CanLearn, HasLearned, HasRoom, HasTaken, IsReplica, holds_of, known_to, view_of};
-    ghost use Rattle.replica_core.specs.Decisions.{IsReadyFor, IsTaken, Splits, TakesHeeded};
-    ghost use Rattle.replica_core.specs.Heeded.{Heeds};
+    ghost use Rattle.replica_core.specs.Decisions.{IsHeeded, IsReadyFor, Splits, kept_at};
+    ghost use Rattle.replica_core.specs.Next.{AreOthers};
+
+    /// What it takes of a message: the items that it may apply, an Accept for each of them that gives
+    /// to it, and for each want of the sender at most one Out, of what it then still holds. Nothing
+    /// of it is done before it is committed.
+    ///
+    /// The message may be any: only what fits is heeded, of at most 16 items and 8 wants, and nothing
+    /// of one that isn't addressed to it. A message of a run is heeded whole.
+    pub fn take(&self, alloc: Global, setup: &Setup, message: &Message) -> Result<Taken, NoMemory>
+        requires own { IsReplica setup.now self.now.me self.now }
+        requires room { HasRoom 24 self.now }
+        ensures { IfOk result (TakesHeeded setup.now (view_of self.now) message.now) }
+    {
+        take(
+            alloc,
+            setup,
+            self.me,
+            &self.table,
+            &self.store.cut(),
+            message,
+        )
+    }
 
     /// Keeps the greatest cut that was told.
     fn hear(&mut self, from: u32, cut: &Cut)
@@ -50,70 +73,60 @@ impl Replica {
     }
 
     /// Applies the next items of another log.
-    pub(crate) fn learn(&mut self, spec: &Spec, items: &[LogItem])
+    fn apply(&mut self, spec: &Spec, items: &[LogItem])
         requires store { CanLearn self.old items.now }
-        requires ready { (more : List ItemOf) × IsReadyFor self.old (items.now ++ more) }
+        requires ready { (more : List ItemOf) × HasRoomFor self.old.store (items.now ++ more) }
         ensures learned { HasLearned items.now self.old self.new }
-        ensures ready { (more : List ItemOf) → IsReadyFor self.old (items.now ++ more) → IsReadyFor self.new more }
+        ensures ready { (more : List ItemOf) → HasRoomFor self.old.store (items.now ++ more) → HasRoomFor self.new.store more }
     {
         for item in items {
             self.store.apply(spec, item);
         }
     }
 
-    /// Whether so many rights to lower a cell are held.
-    fn holds(&self, setup: &Setup, cell: &Cell, count: u64) -> bool
-        requires well_formed { IsWellFormed setup.now.spec }
-        requires own { IsReplica setup.now self.now.me self.now }
-        requires fits { Contains (cells setup.now.spec) cell.now }
-        requires room { HasRoom 0 self.now }
-        ensures { result ≡ is_met setup.now.replicas (holds_of setup.now self.now) (low_need cell.now count) }
+    /// Applies the next items of the log of another replica, which leaves what it holds as it is.
+    pub(crate) fn learn(&mut self, setup: &Setup, items: &[LogItem])
+        requires own { IsReplica setup.now self.old.me self.old }
+        requires others { (from : ℕ) × AreOthers setup.now self.old from items.now }
+        requires ready { (more : List ItemOf) × HasRoomFor self.old.store (items.now ++ more) }
+        ensures own { IsReplica setup.now self.old.me self.new }
+        ensures learned { HasLearned items.now self.old self.new }
+        ensures ready { (more : List ItemOf) → HasRoomFor self.old.store (items.now ++ more) → HasRoomFor self.new.store more }
     {
-        let have = self.held(setup, cell);
-        u128::from(count) <= have
+        tables_learn();
+        self.apply(&setup.spec, items);
     }
 
     /// Whether what is held meets a want.
     fn is_met(&self, setup: &Setup, want: &Want) -> bool
-        requires well_formed { IsWellFormed setup.now.spec }
         requires own { IsReplica setup.now self.now.me self.now }
-        requires fits { IsLowWant setup.now.spec want.now }
-        requires room { HasRoom 0 self.now }
-        ensures { result ≡ is_met setup.now.replicas (holds_of setup.now self.now) (need_of want.now) }
-    {
-        match want.right {
-            Right::Low(cell) => match want.ask {
-                WantAsk::Count(count) => self.holds(setup, &cell, count),
-                _ => false,
-            },
-            _ => false,
-        }
-    }
-
-    /// Wants again what isn't met.
-    fn keep_unmet(&mut self, setup: &Setup, want: &Want)
-        requires well_formed { IsWellFormed setup.now.spec }
-        requires own { IsReplica setup.now self.old.me self.old }
         requires fits { WantFits setup.now want.now }
-        requires room { HasRoom 0 self.old }
-        requires few { length self.old.wants < 8 }
-        ensures { self.new ≡ record self.old { wants = self.old.wants ++ still_wanted setup.now.replicas (holds_of setup.now self.old) (want.now ∷ []) } }
+        ensures { result ≡ is_met setup.now.replicas (holds_of setup.now self.now) (needed want.now) }
     {
-        if !self.is_met(setup, want) {
-            self.wants.put_last(want);
+        tables_tell();
+        self.table.is_met(setup, &need_of(want))
+    }
+
+    /// Drops the want at a place, if it is met.
+    fn drop_if_met(&mut self, setup: &Setup, place: usize)
+        requires own { IsReplica setup.now self.old.me self.old }
+        requires place { place < length self.old.wants }
+        ensures { self.new ≡ record self.old { wants = kept_at setup.now self.old place } }
+    {
+        let want = self.wants.list()[place];
+        if self.is_met(setup, &want) {
+            self.wants.drop_at(place as u32);
         }
     }
 
-    /// Drops the wants that are met.
+    /// Drops the wants that are met, from the last one on.
     fn drop_met(&mut self, setup: &Setup)
-        requires well_formed { IsWellFormed setup.now.spec }
         requires own { IsReplica setup.now self.old.me self.old }
-        requires room { HasRoom 0 self.old }
         ensures { self.new ≡ record self.old { wants = still_wanted setup.now.replicas (holds_of setup.now self.old) self.old.wants } }
     {
-        for _k in 0..self.wants.len() {
-            let want = self.wants.take_first();
-            self.keep_unmet(setup, &want);
+        let count = self.wants.list().len();
+        for k in 0..count {
+            self.drop_if_met(setup, count - 1 - k);
         }
     }
 
@@ -128,15 +141,14 @@ impl Replica {
         accepts: &[LogItem],
         outs: &[LogItem],
     )
-        requires well_formed { IsWellFormed setup.now.spec }
         requires splits { (m : MessageOf) × (taken : TakenOf) × (m.from ≡ from) × (m.cut ≡ cut.now) × Splits setup.now m self.old taken applied.now accepts.now outs.now }
         requires room { HasRoom 24 self.old }
-        requires ready { IsReadyFor self.old (applied.now ++ (accepts.now ++ outs.now)) }
+        requires ready { IsReadyFor setup.now self.old (applied.now ++ (accepts.now ++ outs.now)) }
         ensures known { known_to self.new ≡ with_all (applied.now ++ (accepts.now ++ outs.now)) (known_to self.old) }
         ensures taken { (m : MessageOf) (taken : TakenOf) → m.from ≡ from → m.cut ≡ cut.now → Splits setup.now m self.old taken applied.now accepts.now outs.now → HasTaken setup.now m self.old (outcomes.Took m.number taken.applied taken.accepted taken.gave) self.new }
     {
         self.hear(from, cut);
-        self.learn(&setup.spec, applied);
+        self.learn(setup, applied);
         self.put_all(setup, accepts);
         self.drop_met(setup);
         self.put_all(setup, outs);
@@ -144,13 +156,12 @@ impl Replica {
 
     /// Does what it decided on what it heeds of a message that is addressed to it.
     fn commit_heeded(&mut self, setup: &Setup, from: u32, cut: &Cut, taken: &Taken)
-        requires well_formed { IsWellFormed setup.now.spec }
         requires own { IsReplica setup.now self.old.me self.old }
-        requires decided { (m : MessageOf) × (m.from ≡ from) × (m.cut ≡ cut.now) × MessageFits setup.now self.old.me m × IsTaken setup.now m (view_of self.old) taken.now }
+        requires decided { (m : MessageOf) × (m.from ≡ from) × (m.cut ≡ cut.now) × IsHeeded setup.now self.old m × IsTaken setup.now m (view_of self.old) taken.now }
         requires room { HasRoom 24 self.old }
-        requires ready { IsReadyFor self.old taken.now.batch.items }
+        requires ready { IsReadyFor setup.now self.old taken.now.batch.items }
         ensures known { known_to self.new ≡ with_all taken.now.batch.items (known_to self.old) }
-        ensures taken { (m : MessageOf) → m.from ≡ from → m.cut ≡ cut.now → MessageFits setup.now self.old.me m → IsTaken setup.now m (view_of self.old) taken.now → HasTaken setup.now m self.old (outcomes.Took m.number taken.now.applied taken.now.accepted taken.now.gave) self.new }
+        ensures taken { (m : MessageOf) → m.from ≡ from → m.cut ≡ cut.now → IsHeeded setup.now self.old m → IsTaken setup.now m (view_of self.old) taken.now → HasTaken setup.now m self.old (outcomes.Took m.number taken.now.applied taken.now.accepted taken.now.gave) self.new }
     {
         let (applied, own) = taken
             .batch
@@ -165,11 +176,10 @@ impl Replica {
     /// applies and logs the items of the batch, and drops the wants that are met once it has
     /// accepted. Of a message that isn't addressed to it nothing is heard.
     pub fn commit_take(&mut self, setup: &Setup, message: &Message, taken: &Taken)
-        requires well_formed { IsWellFormed setup.now.spec }
         requires own { IsReplica setup.now self.old.me self.old }
         requires decided { TakesHeeded setup.now (view_of self.old) message.now taken.now }
         requires room { HasRoom 24 self.old }
-        requires ready { IsReadyFor self.old taken.now.batch.items }
+        requires ready { IsReadyFor setup.now self.old taken.now.batch.items }
         ensures known { known_to self.new ≡ with_all taken.now.batch.items (known_to self.old) }
         ensures taken { (heeded : MessageOf) → Heeds setup.now (view_of self.old) message.now heeded → IsTaken setup.now heeded (view_of self.old) taken.now → HasTaken setup.now heeded self.old (outcomes.Took message.now.number taken.now.applied taken.now.accepted taken.now.gave) self.new }
     {

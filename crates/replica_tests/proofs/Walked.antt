@@ -1,30 +1,37 @@
--- Specifications without upper bounds, and stores of two replicas.
-use Rattle.std.proofs.Common.{◌≡◌, ℕ, zero, suc, ◌≤◌, List, [], ◌∷◌, ◌++◌, length, map, refl, sym, ap, subst, ◌∙◌, arith}
-use Rattle.std.specs.Prelude.{None, slice_get}
+-- Specifications without marked clauses, and stores of two replicas.
+use Rattle.std.proofs.Common.{◌≡◌, ℕ, suc, ◌≤◌, cond, false, List, [], ◌∷◌, ◌++◌, length, map, refl, sym, ap, subst, ◌∙◌, arith}
 use Rattle.std.specs.List.{AllByRecursion}
-use Rattle.std.specs.Option.{option_map_or}
-use Rattle.spec_model.specs.declared.spec.Num.{Num}
+use Rattle.spec_model.specs.declared.clause.Clause.{Clause}
+use Rattle.spec_model.specs.declared.plan.LockKind.{LockKind}
 use Rattle.spec_model.specs.declared.plan.Setup.{Setup}
 use Rattle.spec_model.specs.declared.log.LogItem.{LogItem}
-use Rattle.run_model.specs.Fitting.{IsPlaced}
+use Rattle.spec_model.specs.Fits.{EachPairOnce, IsWellFormed, LockFits, PartFits, marked_from}
+use Rattle.run_model.specs.Fitting.{IsPlaced, SetupFits}
 use Rattle.run_model.specs.Logs.{Logs, log_at}
 use Rattle.run_model.proofs.Lists.{each_append}
 use Rattle.causal_store.specs.Stores.{IsStore, cut_in, logs_in}
 use Rattle.causal_store.specs.declared.store.Store.{Store}
-use Rattle.replica_core.specs.Tables.{HasLowsAlone}
 
 pub each_push : {X : Type 0} (P : X → Type 0) (xs : List X) (x : X) → AllByRecursion P xs → P x → AllByRecursion P (xs ++ x ∷ [])
 each_push P xs x h k = each_append P xs (x ∷ []) h (k, tt)
 
--- no cell has an upper bound where no number has one
-no_most : (nums : List Num) (n : ℕ) → AllByRecursion (λ (num : Num). num.max ≡ None) nums → option_map_or (λ (num : Num). num.max) (slice_get nums n) None ≡ None
-no_most [] n all = refl
-no_most (num ∷ nums) zero all = all.0
-no_most (num ∷ nums) (suc n) all = no_most nums n all.1
+-- no place of a marked clause where none is marked
+none_marked : (i : ℕ) (clauses : List Clause) → AllByRecursion (λ (c : Clause). c.mask ≡ false) clauses → marked_from i clauses ≡ []
+none_marked i [] none = refl
+none_marked i (c ∷ clauses) none = ap (λ b. cond b (i ∷ marked_from (suc i) clauses) (marked_from (suc i) clauses)) none.0 ∙ none_marked (suc i) clauses none.1
 
--- so a setup with an empty plan has rights to lower alone
-pub lows_alone : (setup : Setup) → AllByRecursion (λ (num : Num). num.max ≡ None) setup.spec.nums → setup.plan.locks ≡ [] → setup.plan.masks ≡ [] → setup.plan.parts ≡ [] → HasLowsAlone setup
-lows_alone setup all locks masks parts = record { upper = λ cell. no_most setup.spec.nums cell.num all; locks = locks; masks = masks; parts = parts }
+-- so an empty plan fits
+pub bare_fits : (setup : Setup) → IsWellFormed setup.spec → AllByRecursion (λ (c : Clause). c.mask ≡ false) setup.spec.clauses → setup.plan.locks ≡ [] → setup.plan.masks ≡ [] → setup.plan.parts ≡ [] → setup.replicas ≡ 2 → SetupFits setup
+bare_fits setup formed none locks masks parts two = record {
+  some = omega (arith, two);
+  spec = formed;
+  plan = record {
+    locks_fit = subst (AllByRecursion (LockFits setup.spec)) (sym locks) tt;
+    parts_fit = subst (AllByRecursion (PartFits setup.spec)) (sym parts) tt;
+    once = subst EachPairOnce (sym (ap (λ (kinds : List LockKind). kinds ++ setup.plan.parts) locks ∙ parts)) tt;
+    masks = masks ∙ sym (none_marked 0 setup.spec.clauses none);
+  };
+}
 
 -- two short logs
 pub short_logs : (logs : Logs) → length logs ≡ 2 → length (log_at logs 0) ≤ 1000 → length (log_at logs 1) ≤ 1000 → AllByRecursion (λ log. length log ≤ 4194304) logs

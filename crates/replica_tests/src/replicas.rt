@@ -1,9 +1,9 @@
 //! Replicas that act one step at a time.
 
 ghost use Rattle.std.specs.Prelude.{◌≡◌, [], IfOk, OnOk};
-ghost use Rattle.spec_model.specs.Fits.{InstFits, IsWellFormed};
-ghost use Rattle.replica_core.specs.Replicas.{HasRoom, IsReplica};
-ghost use Rattle.replica_core.specs.Tables.{HasLowsAlone};
+ghost use Rattle.spec_model.specs.Fits.{InstFits};
+ghost use Rattle.run_model.specs.Fitting.{SetupFits};
+ghost use Rattle.replica_core.specs.Replicas.{IsReplica};
 ghost use Rattle.replica_tests.specs.Acting.{HasActed, IsUp};
 
 use crate::shop::{inst, stock};
@@ -17,8 +17,8 @@ use std::alloc::Global;
 
 /// Replica 0 before its first step.
 fn begin(alloc: Global, setup: &Setup) -> Result<Replica, NoMemory>
-    requires well_formed { IsWellFormed setup.now.spec }
-    requires alone { HasLowsAlone setup.now }
+    requires setup { SetupFits setup.now }
+    requires partless { setup.now.plan.parts ≡ [] }
     requires two { setup.now.replicas ≡ 2 }
     ensures acted { IfOk result (HasActed setup.now []) }
     ensures up { IfOk result (IsUp setup.now) }
@@ -33,7 +33,6 @@ fn request(
     replica: &Replica,
     inst: &Inst,
 ) -> Result<Decision, NoMemory>
-    requires well_formed { IsWellFormed setup.now.spec }
     requires up { IsUp setup.now replica.now }
     requires fits { InstFits setup.now.spec inst.now }
 {
@@ -48,7 +47,6 @@ fn act(
     batches: &mut Items<Batch>,
     inst: &Inst,
 ) -> Result<bool, NoMemory>
-    requires well_formed { IsWellFormed setup.now.spec }
     requires acted { HasActed setup.now batches.old replica.old }
     requires fits { InstFits setup.now.spec inst.now }
     ensures acted { OnOk result (HasActed setup.now batches.new replica.new) }
@@ -61,7 +59,7 @@ fn act(
         return Ok(false);
     };
     commits_more();
-    replica.ready(setup, &batch)?;
+    replica.ready(alloc, setup, &batch)?;
     replica.commit_act(setup, &batch);
     let _so_far = batches.as_slice();
     batches.push(batch)?;
@@ -70,8 +68,8 @@ fn act(
 
 /// Replica 0 once it has opened item 0 and sold the one that it may sell, with its batches.
 fn has_sold(alloc: Global, setup: &Setup, batches: &mut Items<Batch>) -> Result<Replica, NoMemory>
-    requires well_formed { IsWellFormed setup.now.spec }
-    requires alone { HasLowsAlone setup.now }
+    requires setup { SetupFits setup.now }
+    requires partless { setup.now.plan.parts ≡ [] }
     requires two { setup.now.replicas ≡ 2 }
     requires none { batches.old ≡ [] }
     ensures acted { IfOk result (HasActed setup.now batches.new) }
@@ -95,7 +93,6 @@ fn recover(
     replica: &Replica,
     batches: &Items<Batch>,
 ) -> Result<Replica, NoMemory>
-    requires well_formed { IsWellFormed setup.now.spec }
     requires two { setup.now.replicas ≡ 2 }
     requires acted { HasActed setup.now batches.now replica.now }
     ensures acted { IfOk result (HasActed setup.now batches.now) }
@@ -112,8 +109,8 @@ struct Pair {
 }
 
 fn pair_of(alloc: Global, setup: &Setup) -> Result<Pair, NoMemory>
-    requires well_formed { IsWellFormed setup.now.spec }
-    requires alone { HasLowsAlone setup.now }
+    requires setup { SetupFits setup.now }
+    requires partless { setup.now.plan.parts ≡ [] }
     requires two { setup.now.replicas ≡ 2 }
     ensures first { IfOk result (λ p. IsUp setup.now p.first) }
     ensures again { IfOk result (λ p. IsUp setup.now p.again) }
@@ -126,11 +123,9 @@ fn pair_of(alloc: Global, setup: &Setup) -> Result<Pair, NoMemory>
 
 /// Wants what it is short of, if it is.
 fn want(alloc: Global, setup: &Setup, replica: &mut Replica, inst: &Inst) -> Result<bool, NoMemory>
-    requires well_formed { IsWellFormed setup.now.spec }
     requires up { IsUp setup.now replica.old }
     requires fits { InstFits setup.now.spec inst.now }
     ensures own { OnOk result (IsReplica setup.now 0 replica.new) }
-    ensures room { OnOk result (HasRoom 0 replica.new) }
 {
     let Decision::Short(lacking) = replica.request(alloc, setup, inst)? else {
         return Ok(false);
@@ -141,18 +136,16 @@ fn want(alloc: Global, setup: &Setup, replica: &mut Replica, inst: &Inst) -> Res
 
 /// What it sends to replica 1.
 fn send(alloc: Global, setup: &Setup, replica: &Replica) -> Result<Message, NoMemory>
-    requires well_formed { IsWellFormed setup.now.spec }
     requires two { setup.now.replicas ≡ 2 }
     requires own { IsReplica setup.now 0 replica.now }
-    requires room { HasRoom 0 replica.now }
 {
     replica.send(alloc, setup, 1, 0, 7)
 }
 
 /// What each of them sends once the first wants more to sell.
 pub(crate) fn messages(alloc: Global, setup: &Setup) -> Result<(Message, Message), NoMemory>
-    requires well_formed { IsWellFormed setup.now.spec }
-    requires alone { HasLowsAlone setup.now }
+    requires setup { SetupFits setup.now }
+    requires partless { setup.now.plan.parts ≡ [] }
     requires two { setup.now.replicas ≡ 2 }
 {
     let sell = inst(2, 0);
@@ -168,8 +161,8 @@ pub(crate) fn messages(alloc: Global, setup: &Setup) -> Result<(Message, Message
 
 /// What the one that is made again decides: on opening the other item, and on selling once more.
 pub(crate) fn decisions(alloc: Global, setup: &Setup) -> Result<(Decision, Decision), NoMemory>
-    requires well_formed { IsWellFormed setup.now.spec }
-    requires alone { HasLowsAlone setup.now }
+    requires setup { SetupFits setup.now }
+    requires partless { setup.now.plan.parts ≡ [] }
     requires two { setup.now.replicas ≡ 2 }
 {
     let unlock = inst(0, 1);

@@ -1,15 +1,15 @@
 //! A shop of two items. One of them may be open, and only then be listed.
 
-ghost use Rattle.std.specs.Prelude.{◌≡◌, IfOk, IfSome, IsTrue, None};
+ghost use Rattle.std.specs.Prelude.{◌≡◌, [], IfOk, IfSome, IsTrue, false};
 ghost use Rattle.std.specs.List.{AllByRecursion};
-ghost use Rattle.spec_model.specs.declared.spec.Num.{Num as NumOf};
+ghost use Rattle.spec_model.specs.declared.clause.Clause.{Clause as ClauseOf};
 ghost use Rattle.spec_model.specs.Fits.{IsWellFormed};
-ghost use Rattle.replica_core.specs.Tables.{HasLowsAlone};
+ghost use Rattle.run_model.specs.Fitting.{SetupFits};
 
 use ind_base::{Args, List, NoMemory, Span, Spans, Text};
 use line_text::ParseError;
 use spec_language::parse_spec;
-use spec_model::{Atom, Broken, Cell, Inst, Num, Plan, Setup, Spec};
+use spec_model::{Atom, Broken, Cell, Clause, Inst, Plan, Setup, Spec};
 use std::alloc::Global;
 
 const SHOP: &str = "sort item 2
@@ -37,28 +37,27 @@ fn lines_of(alloc: Global, text: &str) -> Result<Vec<Text>, NoMemory> {
     Ok(lines)
 }
 
-/// Whether no number of these has an upper bound.
+/// Whether none of these clauses is marked.
 #[tactic(auto, using(crate::proofs::Walked::each_push))]
-fn none_has_most(nums: &[Num]) -> bool
-    ensures { IsTrue result → AllByRecursion (λ (n : NumOf). n.max ≡ None) nums.now }
+fn none_is_marked(clauses: &[Clause]) -> bool
+    ensures { IsTrue result → AllByRecursion (λ (c : ClauseOf). c.mask ≡ false) clauses.now }
 {
-    for num in nums {
-        if num.max.is_some() {
+    for clause in clauses {
+        if clause.mask {
             return false;
         }
     }
     true
 }
 
-/// Two replicas of a specification without reservations, if no number has an upper bound.
-#[tactic(auto, using(crate::proofs::Walked::lows_alone))]
+/// Two replicas of a specification without reservations, if no clause is marked.
 fn bare(alloc: Global, spec: Spec) -> Option<Setup>
     requires well_formed { IsWellFormed spec }
-    ensures well_formed { IfSome result (λ setup. IsWellFormed setup.spec) }
-    ensures alone { IfSome result HasLowsAlone }
+    ensures fits { IfSome result SetupFits }
+    ensures partless { IfSome result (λ setup. setup.plan.parts ≡ []) }
     ensures two { IfSome result (λ setup. setup.replicas ≡ 2) }
 {
-    if !none_has_most(spec.nums.as_slice()) {
+    if !none_is_marked(spec.clauses.as_slice()) {
         return None;
     }
     let plan = Plan {
@@ -75,8 +74,8 @@ fn bare(alloc: Global, spec: Spec) -> Option<Setup>
 
 /// The shop at two replicas.
 pub(crate) fn shop(alloc: Global) -> Result<Setup, ParseError>
-    ensures well_formed { IfOk result (λ setup. IsWellFormed setup.spec) }
-    ensures alone { IfOk result HasLowsAlone }
+    ensures fits { IfOk result SetupFits }
+    ensures partless { IfOk result (λ setup. setup.plan.parts ≡ []) }
     ensures two { IfOk result (λ setup. setup.replicas ≡ 2) }
 {
     let Ok(lines) = lines_of(alloc, SHOP) else {

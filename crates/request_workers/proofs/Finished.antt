@@ -1,6 +1,6 @@
 -- Nodes that have taken a whole schedule: their histories are those of a legal run of it.
-use Rattle.std.proofs.Common.{◌≡◌, inl, inr, ℕ, zero, suc, ◌+◌, ◌<◌, ◌≤◌, ◌^◌, cond, List, [], ◌∷◌, ◌++◌, length, take, refl, sym, ap, subst, ◌∙◌, arith}
-use Rattle.std.specs.Prelude.{slice_get, slice_index, Some, Option, Result, Ok, Err, IfOk, map, Contains}
+use Rattle.std.proofs.Common.{◌≡◌, inl, inr, ℕ, zero, suc, ◌+◌, ◌<◌, ◌≤◌, cond, List, [], ◌∷◌, ◌++◌, length, take, refl, sym, ap, subst, ◌∙◌, arith}
+use Rattle.std.specs.Prelude.{slice_get, slice_index, Some, Option, Result, Ok, Err, IfOk, map}
 use Rattle.ind_base.specs.declared.refusal.NoMemory.{NoMemory}
 use Rattle.std.specs.List.{AllByRecursion}
 use Rattle.std.proofs.lemmas.Bool.{ne_eqb, cases_lt}
@@ -8,29 +8,22 @@ use Rattle.std.proofs.lemmas.Bool.Decides.{eqb_tells}
 use Rattle.std.proofs.lemmas.List.{length-map}
 use Rattle.std.proofs.lemmas.Option.{get_or_from_slice_get}
 use Rattle.spec_model.specs.declared.plan.Setup.{Setup}
-use Rattle.spec_model.specs.declared.instance.Cell.{Cell}
-use Rattle.spec_model.specs.declared.right.Right.TheVariants as right
 use Rattle.spec_model.specs.declared.log.LogItem.{LogItem}
-use Rattle.spec_model.specs.Fits.{IsWellFormed}
-use Rattle.spec_model.specs.Universe.{cells}
 use Rattle.run_model.specs.declared.step.Order.{Order}
 use Rattle.run_model.specs.declared.step.StepEntry.{StepEntry}
 use Rattle.run_model.specs.declared.history.Final.{Final}
 use Rattle.run_model.specs.declared.history.History.{History}
 use Rattle.run_model.specs.Logs.{Logs, log_at}
-use Rattle.run_model.specs.Rights.{held_count}
 use Rattle.run_model.specs.Worlds.{Standing, World, logs_of}
 use Rattle.run_model.specs.Runs.{InOrder, asks_in, entries_at}
 use Rattle.run_model.specs.Fitting.{DoFits}
 use Rattle.run_model.specs.Sound.{IsSettled, RunsAreSound}
 use Rattle.run_model.specs.Finals.{final_of, lasts_from}
 use Rattle.run_model.specs.Locals.{FinalsAgree, Local, RunsInOrder}
-use Rattle.run_model.proofs.WorldLogs.{logs_there}
 use Rattle.run_model.proofs.Lists.{each_take}
 use Rattle.run_trace.specs.Merging.{AreOf, IsMerged}
 use Rattle.causal_store.specs.Stores.{IsShort, logs_in}
-use Rattle.replica_core.specs.Laws.{HoldsAreSmall}
-use Rattle.replica_core.specs.Replicas.{HasRoom, IsReplica, known_to, own_log, standing_of}
+use Rattle.replica_core.specs.Replicas.{IsReplica, known_to, standing_of}
 use Rattle.request_workers.specs.declared.node.Node.{Node}
 use Rattle.request_workers.specs.Histories.{AreLegal}
 use Rattle.scenario_text.specs.WellFormed.{ScheduleFits}
@@ -61,26 +54,18 @@ take_short (suc n) (x ∷ xs) = omega (arith, take_short n xs)
 -- what a node needs to show how it stands
 pub record CanShow (setup : Setup) (node : Node) : Type 0 where
   pub own : IsReplica setup node.replica.me node.replica
-  pub room : HasRoom 0 node.replica
   pub short : IsShort node.replica.store
-  pub small : (cell : Cell) → Contains (cells setup.spec) cell → held_count setup (known_to node.replica) node.replica.me (own_log node.replica) (right.Low cell) < 2 ^ 64
 
-pub can_show : (setup : Setup) (schedule : List Order) (nodes : List Node) (me : ℕ) (node : Node) → HoldsAreSmall → IsWellFormed setup.spec → 0 < setup.replicas → setup.replicas ≤ 8 → length schedule ≤ 100000 → AreDone setup schedule nodes → slice_get nodes me ≡ Some node
-    → CanShow setup node
-can_show setup schedule nodes me node law formed some few lines (links, h) is =
+pub can_show : (setup : Setup) (schedule : List Order) (nodes : List Node) (me : ℕ) (node : Node) → length schedule ≤ 100000 → AreDone setup schedule nodes → slice_get nodes me ≡ Some node → CanShow setup node
+can_show setup schedule nodes me node lines (links, h) is =
     let at : IsNode setup (length schedule) h.entries h.world me node = h.each me node is in
     let l : Local = local_of (sendings_at h.world me) node in
-    let logs : (j : ℕ) → length (log_at (logs_of h.world) j) ≤ 4194304 = λ j. omega (arith, h.short j, lines) in
-    let mine : me ≡ node.replica.me = sym at.own.me_is in
     record {
-      own = subst (λ i. IsReplica setup i node.replica) mine at.own;
-      room = omega (arith, ap length (logs_there h.world me l.standing at.stands.is), h.short me, lines);
+      own = subst (λ i. IsReplica setup i node.replica) (sym at.own.me_is) at.own;
       short = each_by_place (λ (log : List LogItem). length log ≤ 4194304) (logs_in node.replica.store) (λ j log there.
           let log_is : log_at (known_to node.replica) j ≡ log = get_or_from_slice_get (known_to node.replica) j log [] there in
           let cut : List LogItem = take (slice_index l.standing.cut j) (log_at (logs_of h.world) j) in
-          omega (arith, ap length log_is, ap length (at.stands.knows j), take_short (slice_index l.standing.cut j) (log_at (logs_of h.world) j), logs j));
-      small = λ cell among. subst (λ i. held_count setup (known_to node.replica) i (own_log node.replica) (right.Low cell) < 2 ^ 64) mine
-          (law setup h.entries h.world me l cell formed few some h.runs at.stands logs among);
+          omega (arith, ap length log_is, ap length (at.stands.knows j), take_short (slice_index l.standing.cut j) (log_at (logs_of h.world) j), h.short j, lines));
     }
 
 -- ---- the histories

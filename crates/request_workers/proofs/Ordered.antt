@@ -10,9 +10,11 @@ use Rattle.run_model.specs.declared.step.Ask.TheVariants as asks
 use Rattle.run_model.specs.declared.step.Order.{Order}
 use Rattle.run_model.specs.Worlds.{Sending}
 use Rattle.run_model.specs.Steps.{Hears, links_of}
-use Rattle.run_model.specs.Locals.{LocalStepIsOne, StandsIn}
-use Rattle.spec_model.specs.Fits.{IsWellFormed}
-use Rattle.replica_core.specs.Laws.{MessagesAreHeeded}
+use Rattle.run_model.specs.Locals.{Local, LocalStepIsOne}
+use Rattle.run_model.specs.Sound.{IsSettled}
+use Rattle.message_laws.specs.Heeded.{IsHeededWhole}
+use Rattle.message_laws.specs.Laws.{MessagesAreHeeded}
+use Rattle.message_laws.specs.Views.{view_in}
 use Rattle.run_model.proofs.Lists.{each_at}
 use Rattle.scenario_text.specs.WellFormed.{OrderFits, ScheduleFits, StepFits}
 use Rattle.scenario_text.specs.Numbered.{IsAskNumbered, IsNumbered, sends_to}
@@ -112,17 +114,17 @@ take_there setup schedule at o from number nodes links a h is =
     omega (arith, numbered, h.linked.counted from o.replica fits.within a.fits.within)
 
 -- its receiver heeds it whole
-pub heeded_at : (setup : Setup) (schedule : List Order) (at : ℕ) (o : Order) (from number : ℕ) (m : Message) (nodes : List Node) (links : List (List Message)) → MessagesAreHeeded → IsWellFormed setup.spec → setup.replicas ≤ 8 → ScheduleFits setup.spec setup.replicas schedule → IsAt setup schedule at o
+pub heeded_at : (setup : Setup) (schedule : List Order) (at : ℕ) (o : Order) (from number : ℕ) (m : Message) (nodes : List Node) (links : List (List Message)) → MessagesAreHeeded → IsSettled setup → setup.replicas ≤ 8 → ScheduleFits setup.spec setup.replicas schedule → IsAt setup schedule at o
     → AreRunning setup (take at schedule) nodes links → o.ask ≡ asks.Take from (Some number) → slice_get (put_on links from o.replica) number ≡ Some m → HeedsWholeAt setup o.replica m nodes
-heeded_at setup schedule at o from number m nodes links law formed few whole a h is there node here =
+heeded_at setup schedule at o from number m nodes links law settled few whole a h is there node here =
     let done : List Order = take at schedule in
     let fits : StepFits setup.spec setup.replicas o.replica (asks.Take from (Some number)) = subst (StepFits setup.spec setup.replicas o.replica) is a.fits.step in
     let hears : Hears (links_of h.world) o.replica (asks.Take from (Some number)) (Some (sending_of m)) = hears_put setup done h.world links from o.replica number m h.linked fits.within a.fits.within there in
     let one : IsNode setup (length done) h.entries h.world o.replica node = h.each o.replica node here in
     let mine : o.replica ≡ node.replica.me = sym one.own.me_is in
-    law setup h.entries h.world node.replica node.stamp (sendings_at h.world o.replica) from number (sending_of m) m formed one.own.alone (asks_fit setup schedule at nodes links whole h) few (omega (arith, a.fits.within)) h.runs
-    (subst (λ i. StandsIn h.world i (local_of (sendings_at h.world o.replica) node)) mine one.stands) (λ j. omega (arith, h.short j, a.few))
-    (subst (λ i. Hears (links_of h.world) i (asks.Take from (Some number)) (Some (sending_of m))) mine hears) refl
+    let l : Local = local_of (sendings_at h.world o.replica) node in
+    subst (λ i. IsHeededWhole setup (view_in i l) m) mine
+    (law setup h.entries h.world o.replica l from number (sending_of m) m settled one.own.partless (omega (arith, few)) (asks_fit setup schedule at nodes links whole h) h.runs one.stands (λ j. omega (arith, h.short j, a.few)) hears refl)
 
 -- a message is taken
 pub take_running : (setup : Setup) (schedule : List Order) (at : ℕ) (o : Order) (from number : ℕ) (m : Message) (nodes new : List Node) (links : List (List Message)) → LocalStepIsOne → IsAt setup schedule at o → AreRunning setup (take at schedule) nodes links

@@ -1,7 +1,7 @@
 -- The steps of a node.
 use Rattle.std.proofs.Common.{◌≡◌, ◌≢◌, ℕ, ◌+◌, List, [], ◌∷◌, ◌++◌, length, max, refl, sym, ap, subst, ◌∙◌, arith}
 use Rattle.std.specs.Prelude.{slice_set, Some, None, Result, Ok, Err, OnOk}
-use Rattle.std.proofs.lemmas.List.{append-nil}
+use Rattle.std.proofs.lemmas.List.{append-nil, set-get_or}
 use Rattle.spec_model.specs.declared.plan.Setup.{Setup}
 use Rattle.spec_model.specs.declared.instance.Inst.{Inst}
 use Rattle.run_model.specs.declared.message.Message.{Message}
@@ -13,9 +13,9 @@ use Rattle.run_model.specs.declared.step.StepEntry.{StepEntry}
 use Rattle.run_model.specs.Worlds.{Sending}
 use Rattle.run_model.specs.Steps.{message_of}
 use Rattle.run_model.specs.Locals.{LocalSteps}
-use Rattle.replica_core.specs.Replicas.{HasAnswered, HasTaken, known_to, own_log, standing_of, with_items}
+use Rattle.message_laws.specs.Heeded.{with_items}
+use Rattle.replica_core.specs.Replicas.{HasAnswered, HasTaken, known_to, own_log, standing_of}
 use Rattle.replica_core.specs.declared.replica.Replica.{Replica}
-use Rattle.replica_core.proofs.Changes.{set_back}
 use Rattle.request_workers.specs.declared.node.Node.{Node}
 use Rattle.request_workers.specs.Nodes.{CanStep, NodeSteps, local_of, sending_of}
 
@@ -109,7 +109,7 @@ sent setup to number message old new can other from is =
           );
           becomes = refl;
         };
-        known = sym (set_back (known_to old.replica) me);
+        known = sym (set-get_or (known_to old.replica) me []);
       };
       own = can.own;
       grown = omega arith;

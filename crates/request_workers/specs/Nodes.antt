@@ -15,7 +15,7 @@ use Rattle.run_model.specs.Runs.{InOrder, Runs, asks_in, asks_of, entries_at}
 use Rattle.run_model.specs.Finals.{final_of}
 use Rattle.run_model.specs.Locals.{Local, LocalSteps, StandsIn, first_local}
 use Rattle.scenario_text.specs.Numbered.{sends_of}
-use Rattle.replica_core.specs.Heeded.{IsHeededWhole}
+use Rattle.message_laws.specs.Heeded.{IsHeededWhole}
 use Rattle.replica_core.specs.Replicas.{HasRoom, IsReplica, known_to, own_log, standing_of, view_of}
 use Rattle.request_workers.specs.declared.node.Node.{Node}
 

@@ -1,20 +1,15 @@
 //! A replica with its stamp and its history.
 
-ghost use Rattle.std.specs.Prelude.{◌≡◌, ◌≢◌, ◌<◌, ◌≤◌, ◌^◌, ◌++◌, ◌∷◌, [], IfOk, OnOk, None, Some, Contains};
-ghost use Rattle.spec_model.specs.Fits.{InstFits, IsWellFormed};
-ghost use Rattle.spec_model.specs.Universe.{cells};
-ghost use Rattle.spec_model.specs.declared.instance.Cell.{Cell as CellOf};
-ghost use Rattle.spec_model.specs.declared.right.Right.TheVariants as right;
+ghost use Rattle.std.specs.Prelude.{◌≡◌, ◌≢◌, ◌<◌, ◌≤◌, ◌^◌, ◌++◌, ◌∷◌, [], IfOk, OnOk, None, Some};
+ghost use Rattle.spec_model.specs.Fits.{InstFits};
 ghost use Rattle.run_model.specs.declared.step.Ask.TheVariants as asks;
-ghost use Rattle.run_model.specs.Fitting.{MessageFits};
-ghost use Rattle.replica_core.specs.Heeded.{IsHeededWhole};
-ghost use Rattle.run_model.specs.Rights.{held_count};
+ghost use Rattle.run_model.specs.Fitting.{MessageFits, SetupFits};
+ghost use Rattle.message_laws.specs.Heeded.{IsHeededWhole};
 ghost use Rattle.causal_store.specs.Stores.{IsShort};
 ghost use Rattle.spec_model.specs.declared.instance.Inst.{Inst as InstOf};
 ghost use Rattle.replica_core.specs.declared.decision.Decision.TheVariants as decision;
 ghost use Rattle.replica_core.specs.Decisions.{Decides};
-ghost use Rattle.replica_core.specs.Replicas.{HasAnswered, HasRoom, HasTaken, IsReplica, known_to, own_log, view_of};
-ghost use Rattle.replica_core.specs.Tables.{HasLowsAlone};
+ghost use Rattle.replica_core.specs.Replicas.{HasAnswered, HasRoom, HasTaken, IsReplica, view_of};
 
 use ind_base::{List, NoMemory};
 use replica_core::{Decision, Replica, breaks_change_nothing};
@@ -31,15 +26,19 @@ pub(crate) struct Node {
 }
 
 /// Lets an act take effect that a replica decided on.
-fn act(setup: &Setup, replica: &mut Replica, batch: &Batch) -> Result<Outcome, NoMemory>
-    requires well_formed { IsWellFormed setup.now.spec }
+fn act(
+    alloc: Global,
+    setup: &Setup,
+    replica: &mut Replica,
+    batch: &Batch,
+) -> Result<Outcome, NoMemory>
     requires own { IsReplica setup.now replica.old.me replica.old }
     requires decided { (inst : InstOf) × InstFits setup.now.spec inst × Decides setup.now inst (view_of replica.old) (decision.Act batch.now) }
     requires room { HasRoom 1 replica.old }
     ensures { IfOk result (λ outcome. (inst : InstOf) → Decides setup.now inst (view_of replica.old) (decision.Act batch.now) → HasAnswered setup.now inst replica.old outcome replica.new) }
 {
     let index = batch.items.as_slice()[0].index;
-    replica.ready(setup, batch)?;
+    replica.ready(alloc, setup, batch)?;
     replica.commit_act(setup, batch);
     Ok(Outcome::Done { index })
 }
@@ -51,7 +50,6 @@ fn answer(
     replica: &mut Replica,
     inst: &Inst,
 ) -> Result<Outcome, NoMemory>
-    requires well_formed { IsWellFormed setup.now.spec }
     requires own { IsReplica setup.now replica.old.me replica.old }
     requires fits { InstFits setup.now.spec inst.now }
     requires room { HasRoom 1 replica.old }
@@ -66,7 +64,7 @@ fn answer(
             replica.note(&lacking);
             Ok(Outcome::Short(lacking))
         }
-        Decision::Act(batch) => act(setup, replica, &batch),
+        Decision::Act(batch) => act(alloc, setup, replica, &batch),
     }
 }
 
@@ -77,14 +75,13 @@ fn receive(
     replica: &mut Replica,
     message: &Message,
 ) -> Result<Outcome, NoMemory>
-    requires well_formed { IsWellFormed setup.now.spec }
     requires own { IsReplica setup.now replica.old.me replica.old }
     requires whole { IsHeededWhole setup.now (view_of replica.old) message.now }
     requires room { HasRoom 24 replica.old }
     ensures { IfOk result (λ outcome. HasTaken setup.now message.now replica.old outcome replica.new) }
 {
     let taken = replica.take(alloc, setup, message)?;
-    replica.ready(setup, &taken.batch)?;
+    replica.ready(alloc, setup, &taken.batch)?;
     replica.commit_take(setup, message, &taken);
     Ok(Outcome::Took {
         number: message.number,
@@ -99,8 +96,8 @@ impl Node {
 
     /// A replica before its first step.
     pub(crate) fn begin(alloc: Global, setup: &Setup, me: u32) -> Result<Node, NoMemory>
-        requires well_formed { IsWellFormed setup.now.spec }
-        requires alone { HasLowsAlone setup.now }
+        requires setup { SetupFits setup.now }
+        requires partless { setup.now.plan.parts ≡ [] }
         requires place { me < setup.now.replicas }
         requires few { setup.now.replicas ≤ 16 }
         ensures { IfOk result (λ node. IsFirst setup.now me node) }
@@ -133,7 +130,6 @@ impl Node {
         setup: &Setup,
         inst: &Inst,
     ) -> Result<(), NoMemory>
-        requires well_formed { IsWellFormed setup.now.spec }
         requires can { CanStep setup.now self.old }
         requires fits { InstFits setup.now.spec inst.now }
         ensures { OnOk result (NodeSteps setup.now (asks.Do inst.now) None [] self.old self.new) }
@@ -150,8 +146,6 @@ impl Node {
         to: u32,
         number: u32,
     ) -> Result<Message, NoMemory>
-        requires well_formed { IsWellFormed setup.now.spec }
-        requires few { setup.now.replicas ≤ 16 }
         requires can { CanStep setup.now self.old }
         requires other { to ≢ self.old.replica.me }
         requires place { to < setup.now.replicas }
@@ -184,7 +178,6 @@ impl Node {
         number: u32,
         message: &Message,
     ) -> Result<(), NoMemory>
-        requires well_formed { IsWellFormed setup.now.spec }
         requires can { CanStep setup.now self.old }
         requires whole { IsHeededWhole setup.now (view_of self.old.replica) message.now }
         requires stamp { message.now.stamp < 2 ^ 63 }
@@ -200,11 +193,8 @@ impl Node {
 
     /// What it did, and how it stands at the end.
     pub(crate) fn finish(self, alloc: Global, setup: &Setup) -> Result<History, NoMemory>
-        requires well_formed { IsWellFormed setup.now.spec }
         requires own { IsReplica setup.now self.replica.me self.replica }
-        requires room { HasRoom 0 self.replica }
         requires short { IsShort self.replica.store }
-        requires small { (cell : CellOf) → Contains (cells setup.now.spec) cell → held_count setup.now (known_to self.replica) self.replica.me (own_log self.replica) (right.Low cell) < 2 ^ 64 }
         ensures { IfOk result (λ history. history ≡ history_of setup.now self) }
     {
         let Node {

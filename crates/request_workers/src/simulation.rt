@@ -2,10 +2,10 @@
 
 ghost use Rattle.std.specs.Prelude.{◌≡◌, ◌≢◌, ◌<◌, ◌≤◌, ◌+◌, ◌*◌, ◌∷◌, ◌^◌, [], ℕ, IfOk, OnOk, None, Some, length, map, slice_get, take};
 ghost use Rattle.std.specs.List.{AllByRecursion};
-ghost use Rattle.spec_model.specs.Fits.{InstFits, IsWellFormed};
+ghost use Rattle.spec_model.specs.Fits.{InstFits};
 ghost use Rattle.run_model.specs.declared.step.Ask.TheVariants as asks;
+ghost use Rattle.run_model.specs.Fitting.{SetupFits};
 ghost use Rattle.run_model.specs.Sound.{IsSettled};
-ghost use Rattle.replica_core.specs.Tables.{HasLowsAlone};
 ghost use Rattle.scenario_text.specs.Built.{StaysUp};
 ghost use Rattle.scenario_text.specs.WellFormed.{ScheduleFits};
 ghost use Rattle.request_workers.specs.Histories.{AreLegal};
@@ -14,7 +14,7 @@ ghost use Rattle.request_workers.specs.Nodes.{AreDone, AreFirst, AreRunning, Can
 use crate::links::{message_on, no_links, put};
 use crate::node::Node;
 use ind_base::{List, NoMemory};
-use replica_core::{holds_are_small, messages_are_heeded};
+use message_laws::messages_are_heeded;
 use run_model::{
     Ask, History, Message, Order, finals_agree, local_step_is_one, runs_are_sound, runs_in_order,
 };
@@ -23,8 +23,8 @@ use std::alloc::Global;
 
 /// All replicas before their first step.
 fn begin(alloc: Global, setup: &Setup) -> Result<Vec<Node>, NoMemory>
-    requires well_formed { IsWellFormed setup.now.spec }
-    requires alone { HasLowsAlone setup.now }
+    requires setup { SetupFits setup.now }
+    requires partless { setup.now.plan.parts ≡ [] }
     requires few { setup.now.replicas ≤ 8 }
     ensures { IfOk result (λ nodes. AreFirst setup.now setup.now.replicas nodes.items) }
 {
@@ -43,7 +43,6 @@ fn request_at(
     me: u32,
     inst: &Inst,
 ) -> Result<(), NoMemory>
-    requires well_formed { IsWellFormed setup.now.spec }
     requires place { me < length nodes.old.items }
     requires can { CanStepAt setup.now me nodes.old.items }
     requires fits { InstFits setup.now.spec inst.now }
@@ -61,8 +60,6 @@ fn send_at(
     to: u32,
     number: u32,
 ) -> Result<Message, NoMemory>
-    requires well_formed { IsWellFormed setup.now.spec }
-    requires few { setup.now.replicas ≤ 8 }
     requires place { me < length nodes.old.items }
     requires can { CanStepAt setup.now me nodes.old.items }
     requires other { to ≢ me }
@@ -81,7 +78,6 @@ fn take_at(
     number: u32,
     message: &Message,
 ) -> Result<(), NoMemory>
-    requires well_formed { IsWellFormed setup.now.spec }
     requires place { me < length nodes.old.items }
     requires can { CanStepAt setup.now me nodes.old.items }
     requires whole { HeedsWholeAt setup.now me message.now nodes.old.items }
@@ -111,7 +107,7 @@ fn take_order(
     nodes: &mut Vec<Node>,
     links: &mut Vec<List<Message>>,
 ) -> Result<(), NoMemory>
-    requires well_formed { IsWellFormed setup.now.spec }
+    requires settled { IsSettled setup.now }
     requires few { setup.now.replicas ≤ 8 }
     requires schedule { ScheduleFits setup.now.spec setup.now.replicas schedule.now }
     requires up { AllByRecursion (λ order. StaysUp order.ask) schedule.now }
@@ -141,8 +137,8 @@ fn take_order(
 
 /// All lines of a schedule, one after the other.
 fn run(alloc: Global, setup: &Setup, schedule: &[Order]) -> Result<Vec<Node>, NoMemory>
-    requires well_formed { IsWellFormed setup.now.spec }
-    requires alone { HasLowsAlone setup.now }
+    requires settled { IsSettled setup.now }
+    requires partless { setup.now.plan.parts ≡ [] }
     requires few { setup.now.replicas ≤ 8 }
     requires schedule { ScheduleFits setup.now.spec setup.now.replicas schedule.now }
     requires up { AllByRecursion (λ order. StaysUp order.ask) schedule.now }
@@ -163,14 +159,10 @@ fn histories(
     schedule: &[Order],
     nodes: Vec<Node>,
 ) -> Result<List<History>, NoMemory>
-    requires well_formed { IsWellFormed setup.now.spec }
-    requires some { 0 < setup.now.replicas }
-    requires few { setup.now.replicas ≤ 8 }
     requires short { length schedule.now ≤ 100000 }
     requires done { AreDone setup.now schedule.now nodes.items }
     ensures { IfOk result (λ histories. histories ≡ map (history_of setup.now) nodes.items) }
 {
-    holds_are_small();
     let mut histories = List::new(alloc);
     for node in nodes {
         let _so_far = histories.as_slice();
@@ -182,7 +174,7 @@ fn histories(
 /// Runs the replicas on the schedule: what each did, and how it stands at the end.
 pub fn simulate(alloc: Global, setup: &Setup, schedule: &[Order]) -> Result<List<History>, NoMemory>
     requires settled { IsSettled setup.now }
-    requires alone { HasLowsAlone setup.now }
+    requires partless { setup.now.plan.parts ≡ [] }
     requires few { setup.now.replicas ≤ 8 }
     requires schedule { ScheduleFits setup.now.spec setup.now.replicas schedule.now }
     requires up { AllByRecursion (λ order. StaysUp order.ask) schedule.now }

@@ -1,4 +1,4 @@
--- What the derived plan says of conflicting cases, and what it lacks.
+-- What the derived plan says of conflicting cases, and what a plan lacks.
 use Rattle.std.specs.Prelude.{◌≡◌, ◌≤◌, ◌<◌, ◌↔◌, ℕ, true, false, [], ◌++◌, length, Contains}
 use Rattle.std.specs.List.{AllByRecursion}
 use Rattle.ground_clauses.specs.Cases.{pair_cases, touched_cases}
@@ -7,8 +7,7 @@ use Rattle.ground_clauses.specs.Conflicting.{IsConflicting, IsTouchedCase}
 use Rattle.ground_clauses.specs.declared.case.Case.{Case}
 use Rattle.reservation_plan.specs.Conflicts.{is_conflicting}
 use Rattle.reservation_plan.specs.Derived.{derived_plan}
-use Rattle.spec_model.specs.Fits.{IsWellFormed}
-use Rattle.spec_model.specs.Truths.{rule_locks}
+use Rattle.spec_model.specs.Fits.{IsWellFormed, PlanFits}
 use Rattle.spec_model.specs.declared.plan.LockKind.{LockKind}
 use Rattle.spec_model.specs.declared.plan.Plan.{Plan}
 use Rattle.spec_model.specs.declared.spec.Spec.{Spec}
@@ -38,14 +37,6 @@ ReservesConflicts = (spec : Spec) (a b : ℕ) → IsWellFormed spec → a ≤ b 
 abbrev pub TouchedAreCounted : Type 0
 TouchedAreCounted = (spec : Spec) → IsWellFormed spec → length (touched_cases spec) ≤ case_count spec
 
--- Without an interval parameter the derived plan has no partitions.
+-- Without an interval parameter a plan that fits has no partitions.
 abbrev pub PlansWithoutParts : Type 0
-PlansWithoutParts = (spec : Spec) → AllByRecursion (λ op. AllByRecursion (λ param. param.interval ≡ false) op.params) spec.ops → (derived_plan spec).parts ≡ []
-
--- Without marked clauses it has no masks.
-abbrev pub PlansWithoutMasks : Type 0
-PlansWithoutMasks = (spec : Spec) → AllByRecursion (λ clause. clause.mask ≡ false) spec.clauses → (derived_plan spec).masks ≡ []
-
--- Without clauses and locked predicates it has no locks.
-abbrev pub PlansWithoutLocks : Type 0
-PlansWithoutLocks = (spec : Spec) → spec.clauses ≡ [] → AllByRecursion (λ pred. rule_locks pred.rule ≡ false) spec.preds → (derived_plan spec).locks ≡ []
+PlansWithoutParts = (spec : Spec) (plan : Plan) → PlanFits spec plan → AllByRecursion (λ op. AllByRecursion (λ param. param.interval ≡ false) op.params) spec.ops → plan.parts ≡ []

@@ -1,7 +1,7 @@
 //! What the plan's definitions say of conflicting cases, and what a plan lacks: laws, which run
 //! nothing.
 
-ghost use Rattle.reservation_plan.specs.Laws.{PlansWithoutLocks, PlansWithoutMasks, PlansWithoutParts, ReservesConflicts, TellsConflicts, TouchedAreCounted};
+ghost use Rattle.reservation_plan.specs.Laws.{PlansWithoutParts, ReservesConflicts, TellsConflicts, TouchedAreCounted};
 
 /// To try all truths of a query's variables tells exactly the conflicting cases.
 pub fn tells_conflicts()
@@ -19,17 +19,7 @@ pub fn touched_are_counted()
     ensures { TouchedAreCounted }
 {}
 
-/// Without an interval parameter the derived plan has no partitions.
+/// Without an interval parameter a plan that fits has no partitions.
 pub fn plans_without_parts()
     ensures { PlansWithoutParts }
-{}
-
-/// Without marked clauses the derived plan has no masks.
-pub fn plans_without_masks()
-    ensures { PlansWithoutMasks }
-{}
-
-/// Without clauses and locked predicates the derived plan has no locks.
-pub fn plans_without_locks()
-    ensures { PlansWithoutLocks }
 {}

@@ -3,7 +3,7 @@
 ghost use Rattle.std.specs.Prelude.{◌≡◌, ◌<◌, ◌^◌, [], ◌∷◌, ◌++◌, ℕ, Some, true, List as Sequence, OnOk};
 ghost use Rattle.std.specs.List.{AllByRecursion};
 ghost use Rattle.spec_model.specs.declared.log.LogItem.{LogItem as LogItemOf};
-ghost use Rattle.run_model.specs.Fitting.{ItemFits, NeedFits, SetupFits};
+ghost use Rattle.run_model.specs.Fitting.{BodyFits, NeedFits, SetupFits};
 ghost use Rattle.run_model.specs.Allowed.{span_given};
 ghost use Rattle.run_model.specs.Logs.{Logs as AllLogs, item_at};
 ghost use Rattle.run_model.specs.Passing.{can_accept};
@@ -38,7 +38,7 @@ impl Table {
         requires setup { SetupFits setup.now }
         requires partless { setup.now.plan.parts ≡ [] }
         requires replicas { replicas_of self.old ≡ setup.now.replicas }
-        requires items { AllByRecursion (ItemFits setup.now) items.now }
+        requires items { AllByRecursion (λ item. BodyFits setup.now item.body) items.now }
         requires needs { AllByRecursion (NeedFits setup.now) needs.now }
         ensures same { TellTheSame setup.now self.old self.new }
         ensures all { (logs : AllLogs) (me : ℕ) (own : Sequence LogItemOf) → HasAll setup.now logs me own self.old → HasAll setup.now logs me own self.new }

@@ -3,7 +3,7 @@
 ghost use Rattle.std.specs.Prelude.{◌≡◌, ◌&&◌, [], false, is_ok};
 ghost use Rattle.std.specs.List.{AllByRecursion, list_any};
 ghost use Rattle.spec_model.specs.declared.right.Right.TheVariants as right_of;
-ghost use Rattle.run_model.specs.Fitting.{BodyFits, ItemFits, NeedFits, SetupFits};
+ghost use Rattle.run_model.specs.Fitting.{BodyFits, NeedFits, SetupFits};
 ghost use Rattle.run_model.specs.Rights.{same_right};
 ghost use Rattle.rights_table.specs.Bounded as bounded;
 
@@ -121,7 +121,7 @@ impl Table {
         requires setup { SetupFits setup.now }
         requires partless { setup.now.plan.parts ≡ [] }
         requires replicas { replicas_of self.old ≡ setup.now.replicas }
-        requires item { ItemFits setup.now item.now }
+        requires item { BodyFits setup.now item.now.body }
         ensures { MakesRoom setup.now (is_ok result) (λ r. item_touches setup.now.spec me r item.now) self.old self.new }
     {
         self.ready_body(setup, item.origin == me, &item.body)
@@ -132,7 +132,7 @@ impl Table {
         requires setup { SetupFits setup.now }
         requires partless { setup.now.plan.parts ≡ [] }
         requires replicas { replicas_of self.old ≡ setup.now.replicas }
-        requires items { AllByRecursion (ItemFits setup.now) items.now }
+        requires items { AllByRecursion (λ item. BodyFits setup.now item.body) items.now }
         ensures { MakesRoom setup.now (is_ok result) (λ r. list_any (item_touches setup.now.spec self.old.me r) items.now) self.old self.new }
     {
         let me = self.me;

@@ -1,11 +1,11 @@
 -- What a document lacks where no line of it holds a word of a group.
 use Rattle.std.proofs.Common.{◌≡◌, ℕ, ◌+◌, ◌≤◌, Bool, true, false, cond, ◌||◌, eqb, List, [], ◌∷◌, ◌++◌, length, map, refl, sym, ap, subst, ◌∙◌, arith}
-use Rattle.std.specs.Prelude.{Result, Ok, Err, Option, Some, None, codes, nat_le}
+use Rattle.std.specs.Prelude.{Result, Ok, Err, Some, None, codes, nat_le}
 use Rattle.std.specs.List.{AllByRecursion, list_any}
 use Rattle.std.proofs.lemmas.Bool.{lt-leb}
 use Rattle.line_text.specs.declared.cause.Cause.{Cause}
 use Rattle.line_text.specs.declared.token.Token.{Token}
-use Rattle.line_text.specs.declared.token.Token.TheVariants.{Word, Number, Mark}
+use Rattle.line_text.specs.declared.token.Token.TheVariants.{Word, Mark}
 use Rattle.line_text.specs.Lines.{lines_of}
 use Rattle.line_text.specs.Texts.{line_tokens}
 use Rattle.line_text.specs.Bytes.{before_comment}
@@ -15,18 +15,12 @@ use Rattle.line_text.proofs.Inverse.{listing_tokens, behind_tokens, flag_tokens}
 use Rattle.line_text.proofs.Again.{line_read}
 use Rattle.line_text.proofs.Runs.{IsNoNumber, runs_hold, run_found, runs_ended}
 use Rattle.line_text.proofs.Readings.{read_kept_with, read_taken}
-use Rattle.spec_model.specs.declared.spec.Rule.{Rule}
-use Rattle.spec_model.specs.declared.spec.Rule.TheVariants.{AddWins, RemoveWins, Locked}
 use Rattle.spec_model.specs.declared.spec.Sort.{Sort}
 use Rattle.spec_model.specs.declared.clause.Var.{Var}
 use Rattle.spec_model.specs.declared.operation.Op.{Op}
-use Rattle.spec_model.specs.declared.spec.Pred.{Pred}
-use Rattle.spec_model.specs.declared.spec.Num.{Num}
-use Rattle.spec_model.specs.Truths.{rule_locks}
 use Rattle.spec_lines.specs.declared.item.NamedParam.{NamedParam}
 use Rattle.spec_lines.specs.declared.line.SpecLine.{SpecLine}
 use Rattle.spec_lines.specs.declared.line.SpecLine.TheVariants as spec_lines
-use Rattle.spec_lines.specs.Texts.{rule_text}
 use Rattle.spec_lines.proofs.Shapes as shapes
 use Rattle.spec_lines.proofs.Back as spec_back
 use Rattle.scenario_lines.specs.declared.line.RunLine.{RunLine}
@@ -90,15 +84,6 @@ tokens_lack words line none ts read = rw read at none
 
 -- ---- what a line of the specification lacks
 
-rule_open : (rule : Rule) (rest : List Token) → Lacks unbuilt_words (Word (rule_text rule) ∷ rest) → rule_locks rule ≡ false
-rule_open AddWins rest h = refl
-rule_open RemoveWins rest h = refl
-rule_open Locked rest h = absurd cc
-
-no_bound : (max : Option ℕ) → Lacks unbuilt_words (shapes.bound_tokens (codes "max") max) → max ≡ None
-no_bound None h = refl
-no_bound (Some n) h = absurd cc
-
 plain_param : (interval : Bool) → Lacks unbuilt_words (flag_tokens interval (codes "interval")) → interval ≡ false
 plain_param true h = absurd cc
 plain_param false h = refl
@@ -123,24 +108,14 @@ params_plain (p ∷ ps) h =
 
 -- ---- nothing of the first group
 
-abbrev IsOpen : Pred → Type 0
-IsOpen p = rule_locks p.rule ≡ false
-
-abbrev IsUnbounded : Num → Type 0
-IsUnbounded n = n.max ≡ None
-
 abbrev HasNoInterval : Op → Type 0
 HasNoInterval op = AllByRecursion (λ p. p.interval ≡ false) op.params
 
 abbrev OrderStaysUp : Order → Type 0
 OrderStaysUp o = StaysUp o.ask
 
-pub record SpecBuilt (d : SpecDraft) : Type 0 where
-  pub clauses : d.spec.clauses ≡ []
-  pub preds : AllByRecursion IsOpen d.spec.preds
-  pub nums : AllByRecursion IsUnbounded d.spec.nums
-  pub ops : AllByRecursion HasNoInterval d.spec.ops
-  pub free : d.spec.free ≡ []
+abbrev SpecBuilt : SpecDraft → Type 0
+SpecBuilt d = AllByRecursion HasNoInterval d.spec.ops
 
 named_plain : (sorts : List Sort) (ps : List NamedParam) → AllByRecursion IsPlain ps → AllByRecursion (λ (p : Var). p.interval ≡ false) (map (spec_drafts.param_of sorts) ps)
 unfolding spec_drafts.param_of
@@ -149,40 +124,24 @@ named_plain sorts (p ∷ ps) h = (h.0, named_plain sorts ps h.1)
 
 effect_built : (d e : SpecDraft) (f : Op → Result Op Cause) → ((o p : Op) → f o ≡ Ok p → p.params ≡ o.params) → SpecBuilt d → spec_takens.EffectTaken d e f → SpecBuilt e
 effect_built d e f same h t =
-    let ops = last_keeps f HasNoInterval (λ o p is plain. subst (λ (vs : List Var). AllByRecursion (λ (v : Var). v.interval ≡ false) vs) (sym (same o p is)) plain) d.spec.ops t.ops t.last h.ops in
-    subst SpecBuilt t.whole (record { clauses = h.clauses; preds = h.preds; nums = h.nums; ops = ops.0; free = h.free })
-
-bound_none : (max : Option ℕ) → max ≡ None → spec_drafts.bound_of max ≡ None
-bound_none None e = refl
-bound_none (Some n) e = absurd cc
+    let ops = last_keeps f HasNoInterval (λ o p is plain. subst (λ (vs : List Var). AllByRecursion (λ (v : Var). v.interval ≡ false) vs) (sym (same o p is)) plain) d.spec.ops t.ops t.last h in
+    subst SpecBuilt t.whole ops.0
 
 spec_built : (d e : SpecDraft) (line : SpecLine) → Lacks unbuilt_words (shapes.tokens_of_line line) → SpecBuilt d → spec_drafts.step d line ≡ Ok e → SpecBuilt e
 unfolding spec_drafts.step
-spec_built d e (spec_lines.Sort name size) lacks h is =
-    let t = spec_takens.sort_taken d e name size is in
-    subst SpecBuilt t.whole (record { clauses = h.clauses; preds = h.preds; nums = h.nums; ops = h.ops; free = h.free })
-spec_built d e (spec_lines.Pred name sorts rule first) lacks h is =
-    let t = spec_takens.pred_taken d e name sorts rule first is in
-    let rest = Word (rule_text rule) ∷ flag_tokens first (codes "true") in
-    let open' = rule_open rule (flag_tokens first (codes "true")) (lacks_behind unbuilt_words (Word (codes "pred") ∷ Word name ∷ listing_tokens shapes.name_tokens sorts) rest lacks) in
-    subst SpecBuilt t.whole (record { clauses = h.clauses; preds = all_one IsOpen d.spec.preds _ h.preds open'; nums = h.nums; ops = h.ops; free = h.free })
-spec_built d e (spec_lines.Num name sorts init min max) lacks h is =
-    let t = spec_takens.num_taken d e name sorts init min max is in
-    let high = shapes.bound_tokens (codes "max") max in
-    let low = shapes.bound_tokens (codes "min") min in
-    let behind = lacks_behind unbuilt_words (Word (codes "num") ∷ Word name ∷ listing_tokens shapes.name_tokens sorts) (Word (codes "init") ∷ Number init ∷ (low ++ high)) lacks in
-    let none = no_bound max (lacks_behind unbuilt_words (Word (codes "init") ∷ Number init ∷ low) high behind) in
-    subst SpecBuilt t.whole (record { clauses = h.clauses; preds = h.preds; nums = all_one IsUnbounded d.spec.nums _ h.nums (bound_none max none); ops = h.ops; free = h.free })
-spec_built d e (spec_lines.Clause vars premise conclusion mask) lacks h is = absurd cc
+spec_built d e (spec_lines.Sort name size) lacks h is = subst SpecBuilt (spec_takens.sort_taken d e name size is).whole h
+spec_built d e (spec_lines.Pred name sorts rule first) lacks h is = subst SpecBuilt (spec_takens.pred_taken d e name sorts rule first is).whole h
+spec_built d e (spec_lines.Num name sorts init min max) lacks h is = subst SpecBuilt (spec_takens.num_taken d e name sorts init min max is).whole h
+spec_built d e (spec_lines.Clause vars premise conclusion mask) lacks h is = subst SpecBuilt (spec_takens.clause_taken d e vars premise conclusion mask is).literals.whole h
 spec_built d e (spec_lines.Op name params) lacks h is =
     let t = spec_takens.op_taken d e name params is in
     let plain = params_plain params (lacks_behind unbuilt_words (Word (codes "op") ∷ Word name ∷ []) (listing_tokens shapes.param_tokens params) lacks) in
-    subst SpecBuilt t.whole (record { clauses = h.clauses; preds = h.preds; nums = h.nums; ops = all_one HasNoInterval d.spec.ops _ h.ops (named_plain d.spec.sorts params plain); free = h.free })
+    subst SpecBuilt t.whole (all_one HasNoInterval d.spec.ops _ h (named_plain d.spec.sorts params plain))
 spec_built d e (spec_lines.Touch truth pred ts) lacks h is =
     effect_built d e (spec_drafts.op_touch d.spec.preds truth pred ts) (λ o p q. sym (ap (λ (x : Op). x.params) (spec_takens.touched d.spec.preds truth pred ts o p q).whole)) h (spec_takens.touch_taken d e truth pred ts is)
 spec_built d e (spec_lines.Change raises amount num names) lacks h is =
     effect_built d e (spec_drafts.op_change d.spec.nums raises amount num names) (λ o p q. sym (ap (λ (x : Op). x.params) (spec_takens.changed d.spec.nums raises amount num names o p q).whole)) h (spec_takens.change_taken d e raises amount num names is)
-spec_built d e (spec_lines.Free first second) lacks h is = absurd cc
+spec_built d e (spec_lines.Free first second) lacks h is = subst SpecBuilt (spec_takens.free_taken d e first second is).whole h
 
 pub record Built (d : Draft) : Type 0 where
   pub spec : SpecBuilt d.spec
@@ -289,8 +248,8 @@ work_empty d false h = h
 
 draft_lacks : (group : Group) (lines : List (List ℕ)) (d : Draft) → AllByRecursion (HoldsNone (words_of group)) lines → draft_of lines ≡ Ok d → IsLacking group (drafts.document_from d)
 draft_lacks Unbuilt lines d none is =
-    let h = none_kept unbuilt_words Built built_kept (record { spec = record { clauses = refl; preds = tt; nums = tt; ops = tt; free = refl }; stops = refl; orders = tt }) lines d none is in
-    record { clauses = h.spec.clauses; preds = h.spec.preds; nums = h.spec.nums; ops = h.spec.ops; free = h.spec.free; stops = h.stops; work = work_up d (nat_le 10 d.rank) h.orders }
+    let h = none_kept unbuilt_words Built built_kept (record { spec = tt; stops = refl; orders = tt }) lines d none is in
+    record { ops = h.spec; stops = h.stops; work = work_up d (nat_le 10 d.rank) h.orders }
 draft_lacks Schedule lines d none is = work_empty d (nat_le 10 d.rank) (none_kept schedule_words NoOrders no_orders_kept refl lines d none is)
 draft_lacks Clients lines d none is =
     let h = none_kept client_words NoClients no_clients_kept (omega arith) lines d none is in
@@ -321,7 +280,7 @@ all_tokens bytes d is = lines_tokens (lines_of bytes) (draft_of (lines_of bytes)
 -- ---- words among the runs of a line
 
 names_begin : (group : Group) → AllByRecursion IsNoNumber (words_of group)
-names_begin Unbuilt = (refl, (refl, (refl, (refl, (refl, (refl, (refl, (refl, (refl, tt)))))))))
+names_begin Unbuilt = (refl, (refl, (refl, (refl, tt))))
 names_begin Schedule = (refl, (refl, (refl, (refl, (refl, tt)))))
 names_begin Clients = (refl, (refl, (refl, tt)))
 

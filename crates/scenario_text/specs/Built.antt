@@ -1,7 +1,6 @@
 -- What a document lacks where no line of it holds a word of a group.
-use Rattle.std.specs.Prelude.{◌≡◌, false, List, [], None}
+use Rattle.std.specs.Prelude.{◌≡◌, false, List, []}
 use Rattle.std.specs.List.{AllByRecursion}
-use Rattle.spec_model.specs.Truths.{rule_locks}
 use Rattle.run_model.specs.declared.step.Ask.{Ask}
 use Rattle.run_model.specs.declared.step.Ask.TheVariants as asks
 use Rattle.run_model.specs.declared.step.Order.{Order}
@@ -24,13 +23,9 @@ abbrev pub AllStayUp : Work → Type 0
 AllStayUp (works.Schedule orders) = AllByRecursion (λ order. StaysUp order.ask) orders
 AllStayUp (works.Clients turns homes asked) = Unit {0}
 
--- no clause, locked predicate, upper bound, interval, free pair, stop, crash or recovery
+-- no interval parameter, stop, crash or recovery
 pub record IsBuilt (d : Document) : Type 0 where
-  pub clauses : d.spec.clauses ≡ []
-  pub preds : AllByRecursion (λ pred. rule_locks pred.rule ≡ false) d.spec.preds
-  pub nums : AllByRecursion (λ num. num.max ≡ None) d.spec.nums
   pub ops : AllByRecursion (λ op. AllByRecursion (λ param. param.interval ≡ false) op.params) d.spec.ops
-  pub free : d.spec.free ≡ []
   pub stops : d.stops ≡ []
   pub work : AllStayUp d.work
 

@@ -17,13 +17,14 @@ use std::{fs, io, mem};
 const ROOM: u64 = 1_000_000;
 
 /// The files of examples.
-const FILES: [&str; 7] = [
+const FILES: [&str; 8] = [
     "certificates.txt",
     "documents.txt",
     "examples.txt",
     "language.txt",
     "limits.txt",
     "plans.txt",
+    "rights.txt",
     "runs.txt",
 ];
 

@@ -1,7 +1,7 @@
 use Rattle.std.proofs.Common.{subst, sym, ap, ◌∙◌, arith}
 use Rattle.causal_store.specs.Agreeing.{with_all}
 use Rattle.replica_core.specs.Replicas.{view_of}
-use Rattle.replica_core.specs.Views.{View}
+use Rattle.message_laws.specs.Views.{View}
 use Rattle.replica_core.specs.Decisions.{Decides}
 use Rattle.replica_core.specs.declared.decision.Decision.TheVariants as decision
 use Rattle.replica_tests.specs.Acting.{HasActed}

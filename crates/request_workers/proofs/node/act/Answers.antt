@@ -4,7 +4,7 @@ use Rattle.run_model.specs.declared.step.Outcome.TheVariants as outcomes
 use Rattle.replica_core.specs.declared.decision.Decision.TheVariants as decision
 use Rattle.replica_core.specs.declared.replica.Replica.{Replica}
 use Rattle.replica_core.specs.Decisions.{Decides}
-use Rattle.replica_core.specs.Views.{View}
+use Rattle.message_laws.specs.Views.{View}
 use Rattle.replica_core.specs.Replicas.{HasAnswered, IsReplica, own_log}
 use Rattle.request_workers.proofs.node.act.Goals as goal
 

@@ -1,9 +1,9 @@
 use Rattle.std.proofs.Common.{inr, refl, subst, sym, ap}
 use Rattle.run_model.specs.declared.message.Message.{Message}
 use Rattle.run_model.specs.declared.step.Outcome.TheVariants as outcomes
-use Rattle.replica_core.specs.Decisions.{TakesHeeded}
-use Rattle.replica_core.specs.Heeded.{Heeds}
-use Rattle.replica_core.specs.Views.{View}
+use Rattle.message_drafts.specs.Taking.{TakesHeeded}
+use Rattle.message_laws.specs.Heeded.{Heeds}
+use Rattle.message_laws.specs.Views.{View}
 use Rattle.replica_core.specs.Replicas.{HasTaken, IsReplica, view_of}
 use Rattle.request_workers.proofs.node.receive.Goals as goal
 

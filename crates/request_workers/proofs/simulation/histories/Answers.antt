@@ -3,20 +3,10 @@ use Rattle.request_workers.proofs.simulation.histories.Goals as goal
 
 pub finish-requires-clause-own : goal.finish-requires-clause-own
 finish-requires-clause-own c =
-    (can_show c.args.setup.now c.args.schedule.now c.args.nodes.items _ c.in-Some.node c.holds_are_small.ensures c.requires.well_formed c.requires.some c.requires.few c.requires.short c.requires.done
+    (can_show c.args.setup.now c.args.schedule.now c.args.nodes.items _ c.in-Some.node c.requires.short c.requires.done
     (next_there c.args.nodes.items c.loop-node.yielded _ _ _ c.loop-node.invariant.0 (c.in-Some.ensures.steps).0)).own
-
-pub finish-requires-clause-room : goal.finish-requires-clause-room
-finish-requires-clause-room c =
-    (can_show c.args.setup.now c.args.schedule.now c.args.nodes.items _ c.in-Some.node c.holds_are_small.ensures c.requires.well_formed c.requires.some c.requires.few c.requires.short c.requires.done
-    (next_there c.args.nodes.items c.loop-node.yielded _ _ _ c.loop-node.invariant.0 (c.in-Some.ensures.steps).0)).room
 
 pub finish-requires-clause-short : goal.finish-requires-clause-short
 finish-requires-clause-short c =
-    (can_show c.args.setup.now c.args.schedule.now c.args.nodes.items _ c.in-Some.node c.holds_are_small.ensures c.requires.well_formed c.requires.some c.requires.few c.requires.short c.requires.done
+    (can_show c.args.setup.now c.args.schedule.now c.args.nodes.items _ c.in-Some.node c.requires.short c.requires.done
     (next_there c.args.nodes.items c.loop-node.yielded _ _ _ c.loop-node.invariant.0 (c.in-Some.ensures.steps).0)).short
-
-pub finish-requires-clause-small : goal.finish-requires-clause-small
-finish-requires-clause-small c =
-    (can_show c.args.setup.now c.args.schedule.now c.args.nodes.items _ c.in-Some.node c.holds_are_small.ensures c.requires.well_formed c.requires.some c.requires.few c.requires.short c.requires.done
-    (next_there c.args.nodes.items c.loop-node.yielded _ _ _ c.loop-node.invariant.0 (c.in-Some.ensures.steps).0)).small

@@ -60,7 +60,7 @@ take_at-requires-clause-whole c =
     let number : ℕ = c.given-number-in-Take.result in
     let is : o.ask ≡ asks.Take from (Some number) = c.in-Take.is ∙ ap (asks.Take from) (sym c.in-Take.number-is ∙ c.given-number-in-Take.ensures) in
     let there = subst (λ l. slice_get (put_on l from o.replica) number ≡ Some c.message_on-message.result.now) c.deref.ensures.value c.message_on-message.ensures in
-    heeded_at c.args.setup.now c.args.schedule.now c.args.at o from number c.message_on-message.result.now c.args.nodes.now.items c.args.links.now.items c.messages_are_heeded.ensures c.requires.well_formed c.requires.few c.requires.schedule a c.requires.running is there
+    heeded_at c.args.setup.now c.args.schedule.now c.args.at o from number c.message_on-message.result.now c.args.nodes.now.items c.args.links.now.items c.messages_are_heeded.ensures c.requires.settled c.requires.few c.requires.schedule a c.requires.running is there
 
 pub take_at-requires-clause-stamp : goal.take_at-requires-clause-stamp
 take_at-requires-clause-stamp c =

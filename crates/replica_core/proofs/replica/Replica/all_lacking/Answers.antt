@@ -1,7 +1,6 @@
 use Rattle.std.proofs.Common.{◌≡◌, ◌<◌, List, ◌++◌, ◌∷◌, [], length, get_or, map, take, sym, ap, subst, ◌∙◌, arith}
 use Rattle.effect_model.proofs.Sizes.{all_at}
 use Rattle.run_model.specs.Fitting.{WantFits}
-use Rattle.replica_core.proofs.Lows.{want_low}
 use Rattle.spec_model.specs.declared.right.Want.{Want}
 use Rattle.run_model.specs.Wants.{want_less}
 use Rattle.replica_core.specs.Replicas.{holds_of}
@@ -14,15 +13,15 @@ still_lacking-requires-clause-fits c =
     let r = c.args.self.now in
     let k = c.loop-want.want-index in
     let want : Want = c.want-item.result in
-    let lt : k < length r.wants = omega (arith, c.loop-want-test.true, ap length c.as_slice-want-items.ensures.value) in
-    let is : want ≡ get_or r.wants k want = c.want-item.is ∙ ap (λ (l : List Want). get_or l k want) c.as_slice-want-items.ensures.value in
-    want_low setup want c.requires.own.alone (subst (WantFits setup) (sym is) (all_at (WantFits setup) r.wants k want c.requires.own.wants lt))
+    let lt : k < length r.wants = omega (arith, c.loop-want-test.true, ap length c.list-want-items.ensures.value) in
+    let is : want ≡ get_or r.wants k want = c.want-item.is ∙ ap (λ (l : List Want). get_or l k want) c.list-want-items.ensures.value in
+    subst (WantFits setup) (sym is) (all_at (WantFits setup) r.wants k want c.requires.own.wants lt)
 
 pub loop-want-preserved : goal.loop-want-preserved
 loop-want-preserved c =
     let wants : List Want = c.args.self.now.wants in
     let k = c.loop-want.want-index in
     let f = want_less (holds_of c.args.setup.now c.args.self.now) in
-    let lt : k < length wants = omega (arith, c.loop-want-test.true, ap length c.as_slice-want-items.ensures.value) in
-    let is : c.want-item.result ≡ get_or wants k c.want-item.result = c.want-item.is ∙ ap (λ (l : List Want). get_or l k c.want-item.result) c.as_slice-want-items.ensures.value in
+    let lt : k < length wants = omega (arith, c.loop-want-test.true, ap length c.list-want-items.ensures.value) in
+    let is : c.want-item.result ≡ get_or wants k c.want-item.result = c.want-item.is ∙ ap (λ (l : List Want). get_or l k c.want-item.result) c.list-want-items.ensures.value in
     c.in_ok-push.ensures.ok ∙ ap (λ (l : List Want). l ++ c.still_lacking.result ∷ []) c.loop-want.invariant ∙ ap (λ w. map f (take k wants) ++ w ∷ []) c.still_lacking.ensures ∙ sym (map_take_more f wants k c.want-item.result lt is)

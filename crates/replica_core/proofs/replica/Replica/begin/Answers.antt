@@ -1,4 +1,4 @@
-use Rattle.std.proofs.Common.{refl}
+use Rattle.std.proofs.Common.{[], refl}
 use Rattle.replica_core.proofs.Begun.{first_replica, first_stands}
 use Rattle.replica_core.proofs.replica.Replica.begin.Goals as goal
 
@@ -6,22 +6,26 @@ pub returns-clause-own : goal.returns-clause-own
 returns-clause-own c = first_replica c.args.setup.now c.args.me _ (record {
   me_is = refl;
   within = c.requires.place;
-  alone = c.requires.alone;
-  store = c.in_ok-begin.ensures.own;
-  empty = c.in_ok-begin.ensures.empty;
-  lows = c.in_ok-first_rights.ensures;
-  wants = c.in_ok-begin-2.ensures;
-  told = c.in_ok-nothing_told.ensures;
+  few = c.requires.few;
+  setup_fits = c.requires.setup;
+  partless = c.requires.partless;
+  store = c.in_ok-store.ensures.own;
+  empty = c.in_ok-store.ensures.empty;
+  table = c.begin-3.ensures;
+  wants = c.in_ok-wants.ensures;
+  told = c.in_ok-told.ensures;
 })
 
 pub returns-clause-stands : goal.returns-clause-stands
-returns-clause-stands c = first_stands c.args.setup.now c.args.me _ (record {
+returns-clause-stands c = first_stands c.args.setup.now c.args.me (record { me = c.args.me; store = c.in_ok-store.store; table = c.begin-3.result; needs = []; wants = c.in_ok-wants.wants; told = c.in_ok-told.told }) (record {
   me_is = refl;
   within = c.requires.place;
-  alone = c.requires.alone;
-  store = c.in_ok-begin.ensures.own;
-  empty = c.in_ok-begin.ensures.empty;
-  lows = c.in_ok-first_rights.ensures;
-  wants = c.in_ok-begin-2.ensures;
-  told = c.in_ok-nothing_told.ensures;
+  few = c.requires.few;
+  setup_fits = c.requires.setup;
+  partless = c.requires.partless;
+  store = c.in_ok-store.ensures.own;
+  empty = c.in_ok-store.ensures.empty;
+  table = c.begin-3.ensures;
+  wants = c.in_ok-wants.ensures;
+  told = c.in_ok-told.ensures;
 })

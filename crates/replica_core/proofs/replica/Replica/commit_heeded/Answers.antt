@@ -22,7 +22,7 @@ do_all-requires-clause-splits c =
       c.requires.decided.2,
       record {
         own = c.requires.own;
-        fits = c.requires.decided.3;
+        heeded = c.requires.decided.3;
         decided = c.requires.decided.4;
         front_is = c.split_at.ensures.front ∙ ap (take taken.applied) c.as_slice.ensures.value;
         accepts_are = c.split_at-2.ensures.front ∙ ap (take taken.accepted) behind;
@@ -36,7 +36,7 @@ do_all-requires-clause-ready c =
     let own : List LogItem = c.split_at.result.1.now in
     let parts : own ≡ c.split_at-2.result.0.now ++ c.split_at-2.result.1.now = joined_back taken.accepted own c.split_at-2.result.0.now c.split_at-2.result.1.now c.split_at-2.ensures.front c.split_at-2.ensures.back in
     let all : c.as_slice.result.now ≡ c.split_at.result.0.now ++ own = joined_back taken.applied c.as_slice.result.now c.split_at.result.0.now own c.split_at.ensures.front c.split_at.ensures.back in
-    subst (IsReadyFor c.args.self.now) (sym c.as_slice.ensures.value ∙ all ∙ ap (λ (l : List LogItem). c.split_at.result.0.now ++ l) parts) c.requires.ready
+    subst (IsReadyFor c.args.setup.now c.args.self.now) (sym c.as_slice.ensures.value ∙ all ∙ ap (λ (l : List LogItem). c.split_at.result.0.now ++ l) parts) c.requires.ready
 
 pub returns-clause-known : goal.returns-clause-known
 returns-clause-known c =
@@ -54,7 +54,7 @@ returns-clause-taken c =
     λ message from cut fits decided.
     c.do_all.ensures.taken message taken from cut (record {
       own = c.requires.own;
-      fits = fits;
+      heeded = fits;
       decided = decided;
       front_is = c.split_at.ensures.front ∙ ap (take taken.applied) c.as_slice.ensures.value;
       accepts_are = c.split_at-2.ensures.front ∙ ap (take taken.accepted) behind;

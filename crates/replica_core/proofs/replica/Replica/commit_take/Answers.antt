@@ -3,7 +3,7 @@ use Rattle.spec_model.specs.declared.log.LogItem.{LogItem}
 use Rattle.causal_store.specs.Agreeing.{with_all}
 use Rattle.run_model.specs.declared.message.Message.{Message}
 use Rattle.run_model.specs.declared.step.Outcome.TheVariants as outcomes
-use Rattle.replica_core.specs.Decisions.{IsTaken}
+use Rattle.message_drafts.specs.Taking.{IsTaken}
 use Rattle.replica_core.specs.Replicas.{HasTaken, known_to, view_of}
 use Rattle.replica_core.proofs.Silent.{heeded_nothing, heeded_part, nothing_done, nothing_taken}
 use Rattle.replica_core.proofs.replica.Replica.commit_take.Goals as goal

@@ -2,7 +2,7 @@ use Rattle.std.proofs.Common.{◌≡◌, ℕ, List, [], sym, ap, ◌∙◌}
 use Rattle.std.specs.Prelude.{slice_get, slice_index, Some, Option}
 use Rattle.std.specs.Option.{option_copied, unwrap_or}
 use Rattle.std.proofs.lemmas.Option.{get_or_from_slice_get, unwrap_or-slice_get}
-use Rattle.replica_core.proofs.Wanted.{none_told}
+use Rattle.replica_core.proofs.Told.{none_told}
 use Rattle.replica_core.proofs.replica.Replica.known_by.Goals as goal
 
 pub returns-in-Some : goal.returns-in-Some

@@ -1,43 +1,44 @@
-use Rattle.std.proofs.Common.{[], sym, ap, subst, ◌∙◌}
-use Rattle.spec_model.specs.declared.log.Body.{Body}
-use Rattle.run_model.specs.Fitting.{BodyFits}
-use Rattle.replica_core.specs.Views.{item_of}
-use Rattle.replica_core.specs.Replicas.{HasLogged, IsKnown, known_to, standing_of, view_of}
-use Rattle.replica_core.proofs.Next.{loses_as}
+use Rattle.std.proofs.Common.{◌++◌, ◌∷◌, [], refl, sym, ap, subst, ◌∙◌}
+use Rattle.std.specs.Prelude.{slice_set}
+use Rattle.spec_model.specs.declared.log.LogItem.{LogItem}
+use Rattle.rights_table.specs.Tables.{KeepsEntries}
+use Rattle.rights_table.specs.Whole.{HasAll}
+use Rattle.replica_core.specs.Replicas.{HasLogged, known_to, own_log}
+use Rattle.replica_core.specs.declared.replica.Replica.{Replica}
+use Rattle.replica_core.proofs.Logged.{logs_one}
+use Rattle.replica_core.proofs.Needed.{store_whole}
+use Rattle.replica_core.proofs.Next.{along_known, may_own_with}
+use Rattle.replica_core.specs.Replicas.{standing_of}
 use Rattle.replica_core.proofs.replica.Replica.put.Goals as goal
 
-pub act-requires-clause-next : goal.act-requires-clause-next
-act-requires-clause-next c = c.requires.next.is ∙ ap (item_of (view_of c.args.self.now)) c.in-Act.is
+pub own-requires-clause-may : goal.own-requires-clause-may
+own-requires-clause-may c =
+    let r = c.args.self.now in
+    (known_to r, r.me, own_log r, c.args.item.now, refl, c.requires.own.all, may_own_with c.needs_fit.ensures c.args.setup.now r c.args.item.now c.accepted-of.result c.as_slice.result.now c.requires.own c.requires.next c.requires.room c.accepted-of.ensures c.as_slice.ensures.value)
 
-pub act-requires-clause-fits : goal.act-requires-clause-fits
-act-requires-clause-fits c = subst (BodyFits c.args.setup.now) c.in-Act.is c.requires.next.fits
+pub append-requires-clause-store : goal.append-requires-clause-store
+append-requires-clause-store c = store_whole c.args.setup.now c.args.self.now c.requires.own
 
-pub act-requires-clause-held : goal.act-requires-clause-held
-act-requires-clause-held c = loses_as c.args.setup.now (known_to c.args.self.now) c.args.self.now.me (standing_of 0 [] c.args.self.now) c.args.item.now _ c.in-Act.is c.requires.next
+pub returns-clause-logged : goal.returns-clause-logged
+returns-clause-logged c =
+    let setup = c.args.setup.now in
+    let r = c.args.self.now in
+    let item = c.args.item.now in
+    let next = c.requires.next in
+    let all = c.own.ensures.owned (known_to r) r.me (own_log r) item refl c.requires.own.all (may_own_with c.needs_fit.ensures setup r item c.accepted-of.result c.as_slice.result.now c.requires.own next c.requires.room c.accepted-of.ensures c.as_slice.ensures.value) in
+    subst (HasLogged setup item.body r) (sym c.append.ensures.kept) (logs_one setup item.body r c.append.new.self.store c.own.new.self (record {
+      learn = c.tables_learn.ensures;
+      own = c.requires.own;
+      logs = c.append.ensures.logs ∙ ap (λ (i : LogItem). slice_set (known_to r) r.me (own_log r ++ i ∷ [])) next.is;
+      store = c.append.ensures.store;
+      known = along_known setup (known_to r) r.me r.needs (standing_of 0 [] r) item.body next.along;
+      fits = next.fits;
+      room = c.requires.room;
+      all = subst (λ (i : LogItem). HasAll setup (known_to r) r.me (own_log r ++ i ∷ []) c.own.new.self) next.is all;
+    }))
 
-pub returns-in-Act-clause-logged : goal.returns-in-Act-clause-logged
-returns-in-Act-clause-logged c = subst (λ (b : Body). HasLogged c.args.setup.now b c.args.self.now c.act.new.self) (sym c.in-Act.is) c.act.ensures.logged
-
-pub accept-requires-clause-next : goal.accept-requires-clause-next
-accept-requires-clause-next c = c.requires.next.is ∙ ap (item_of (view_of c.args.self.now)) c.in-Accept.is
-
-pub accept-requires-clause-fits : goal.accept-requires-clause-fits
-accept-requires-clause-fits c = subst (BodyFits c.args.setup.now) c.in-Accept.is c.requires.next.fits
-
-pub accept-requires-clause-known : goal.accept-requires-clause-known
-accept-requires-clause-known c = subst (IsKnown (known_to c.args.self.now) c.args.self.now.me) c.in-Accept.is c.requires.next.known
-
-pub returns-in-Accept-clause-logged : goal.returns-in-Accept-clause-logged
-returns-in-Accept-clause-logged c = subst (λ (b : Body). HasLogged c.args.setup.now b c.args.self.now c.accept.new.self) (sym c.in-Accept.is) c.accept.ensures.logged
-
-pub give-requires-clause-next : goal.give-requires-clause-next
-give-requires-clause-next c = c.requires.next.is ∙ ap (item_of (view_of c.args.self.now)) c.in-Out.is
-
-pub give-requires-clause-fits : goal.give-requires-clause-fits
-give-requires-clause-fits c = subst (BodyFits c.args.setup.now) c.in-Out.is c.requires.next.fits
-
-pub give-requires-clause-held : goal.give-requires-clause-held
-give-requires-clause-held c = loses_as c.args.setup.now (known_to c.args.self.now) c.args.self.now.me (standing_of 0 [] c.args.self.now) c.args.item.now _ c.in-Out.is c.requires.next
-
-pub returns-in-Out-clause-logged : goal.returns-in-Out-clause-logged
-returns-in-Out-clause-logged c = subst (λ (b : Body). HasLogged c.args.setup.now b c.args.self.now c.give.new.self) (sym c.in-Out.is) c.give.ensures.logged
+pub returns-clause-put : goal.returns-clause-put
+returns-clause-put c = record {
+  needs = ap (λ (r : Replica). r.needs) c.append.ensures.kept;
+  kept = subst (λ (r : Replica). KeepsEntries c.args.self.now.table r.table) (sym c.append.ensures.kept) c.own.ensures.kept;
+}

@@ -5,15 +5,14 @@ use Rattle.std.proofs.lemmas.Int.{to_z-of_z}
 use Rattle.spec_model.specs.Universe.{cells}
 use Rattle.run_model.specs.declared.history.CellValue.{CellValue}
 use Rattle.replica_core.specs.Shown.{value_now}
-use Rattle.replica_core.proofs.Counts.{cell_fits, in_universe}
+use Rattle.replica_core.proofs.Showing.{cell_known}
 use Rattle.replica_core.proofs.Lists.{map_at}
 use Rattle.replica_core.proofs.replica.Replica.values.Goals as goal
 
 pub value-value-requires-clause-known : goal.value-value-requires-clause-known
 value-value-requires-clause-known c =
     let spec = c.args.spec.now in
-    let fits = cell_fits c.universe_is_all.ensures spec c.cell_at-cell.result (in_universe spec c.loop-place.place c.cell_at-cell.result c.cell_at-cell.ensures) in
-    fits.known
+    cell_known c.universe_is_all.ensures spec c.loop-place.place c.cell_at-cell.result c.cell_at-cell.ensures
 
 pub loop-place-preserved : goal.loop-place-preserved
 loop-place-preserved c =

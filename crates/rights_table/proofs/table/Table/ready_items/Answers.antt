@@ -1,7 +1,7 @@
 use Rattle.std.proofs.Common.{◌<◌, List, length, arith}
 use Rattle.spec_model.specs.declared.log.LogItem.{LogItem}
 use Rattle.spec_model.specs.declared.right.Right.{Right}
-use Rattle.run_model.specs.Fitting.{ItemFits}
+use Rattle.run_model.specs.Fitting.{BodyFits}
 use Rattle.rights_table.specs.Touched.{item_touches}
 use Rattle.rights_table.proofs.Levels.{rest_of}
 use Rattle.rights_table.proofs.Making.{room_more}
@@ -14,5 +14,5 @@ loop-item-preserved c =
     let lt : k < length items = omega (arith, c.loop-item-test.true) in
     record {
       room = room_more c.args.setup.now (λ (r : Right) (i : LogItem). item_touches c.args.setup.now.spec c.args.self.now.me r i) items k c.item-item.result c.args.self.now c.loop-item.self c.ready_item.new.self lt c.item-item.is c.loop-item.invariant.room c.in_ok-ready_item.ensures;
-      fits = rest_of (ItemFits c.args.setup.now) items k lt c.loop-item.invariant.fits;
+      fits = rest_of (λ (i : LogItem). BodyFits c.args.setup.now i.body) items k lt c.loop-item.invariant.fits;
     }
