@@ -1,12 +1,8 @@
 -- Documents that are run or refused.
-use Rattle.std.proofs.Common.{◌≡◌, inl, inr, ℕ, List, [], length, sym, ap, subst, ◌∙◌}
+use Rattle.std.proofs.Common.{◌≡◌, inl, inr, ℕ, List, length, sym, ap, subst, ◌∙◌}
 use Rattle.std.specs.Prelude.{Result, Ok, Err, IfOk}
 use Rattle.line_text.specs.declared.cause.Cause.{Cause}
-use Rattle.reservation_plan.proofs.Lacking.{no_parts}
-use Rattle.reservation_plan.proofs.Made.{plan_made}
-use Rattle.reservation_plan.specs.Derived.{derived_plan}
 use Rattle.scenario_text.specs.declared.document.Document.{Document}
-use Rattle.scenario_text.specs.Built.{IsBuilt}
 use Rattle.line_text.specs.Lines.{lines_of}
 use Rattle.scenario_text.specs.Reading.{document_of, document_of_draft, draft_of}
 use Rattle.plan_answers.specs.Checking as checks
@@ -17,10 +13,6 @@ use Rattle.plan_answers.specs.declared.answer.Answer.{Answer}
 use Rattle.indigo_program.specs.CauseTexts.{refusal_text}
 use Rattle.indigo_program.specs.Headline.{IsAnswerTo}
 use Rattle.indigo_program.specs.Inputs.{Refuses}
-
--- a document that can be run has a derived plan without partitions
-pub partless : (d : Document) → IsBuilt d → (derived_plan d.spec).parts ≡ []
-partless d built = no_parts d.spec (derived_plan d.spec) (plan_made d.spec) built.ops
 
 -- the reply that refuses a line is an answer
 pub refused_answer : {E : Type 0} (command : Command) (bytes : List ℕ) (line : ℕ) (cause : Cause) (result : Result Answer E) → Refuses command bytes line cause

@@ -14,7 +14,7 @@ use Rattle.plan_answers.specs.Splitting.{document_lines}
 use Rattle.indigo_program.specs.declared.command.Command.{Command}
 use Rattle.indigo_program.specs.declared.command.Command.TheVariants as commands
 
--- the bytes are a document with this schedule, and no line of it holds a word that isn't run yet: so it has no interval parameter, stop, crash or recovery
+-- the bytes are a document with this schedule, and no line of it holds a word that isn't run yet: so it has no stop, crash or recovery
 pub record IsRunnable (bytes : List ℕ) (document : Document) (orders : List Order) : Type 0 where
   pub read : document_of bytes ≡ Ok document
   pub schedule : document.work ≡ works.Schedule orders

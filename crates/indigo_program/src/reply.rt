@@ -1,6 +1,6 @@
 //! What each command answers to an input that was read.
 
-ghost use Rattle.std.specs.Prelude.{◌≡◌, ◌<◌, ◌≤◌, ◌++◌, [], IfOk, Ok, OnOk, codes, length};
+ghost use Rattle.std.specs.Prelude.{◌≡◌, ◌<◌, ◌≤◌, ◌++◌, IfOk, Ok, OnOk, codes, length};
 ghost use Rattle.std.specs.List.{AllByRecursion};
 ghost use Rattle.spec_model.specs.Fits.{IsWellFormed};
 ghost use Rattle.run_model.specs.Sound.{IsSettled};
@@ -63,7 +63,6 @@ fn refused(alloc: Global, line: u32, cause: Cause) -> Result<Answer, NoMemory>
 /// The trace of replicas on a schedule.
 fn trace(alloc: Global, setup: &Setup, orders: &[Order]) -> Result<List<u8>, NoMemory>
     requires settled { IsSettled setup.now }
-    requires partless { setup.now.plan.parts ≡ [] }
     requires few { setup.now.replicas ≤ 8 }
     requires schedule { ScheduleFits setup.now.spec setup.now.replicas orders.now }
     requires up { AllByRecursion (λ order. StaysUp order.ask) orders.now }
@@ -81,7 +80,6 @@ fn run_by_plan(
     orders: &[Order],
 ) -> Result<Answer, NoMemory>
     requires well_formed { IsWellFormed spec }
-    requires partless { (derived_plan spec).parts ≡ [] }
     requires some { 0 < replicas }
     requires few { replicas ≤ 8 }
     requires schedule { ScheduleFits spec replicas orders.now }

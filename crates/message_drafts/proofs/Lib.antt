@@ -5,4 +5,3 @@ pub mod Drafting
 pub mod Joined
 pub mod Decisions
 pub mod Logged
-pub mod Fitted

@@ -1,6 +1,6 @@
 //! Giving to one who wants.
 
-ghost use Rattle.std.specs.Prelude.{◌≡◌, ℕ, [], ◌∷◌, List as Sequence, All, OnOk};
+ghost use Rattle.std.specs.Prelude.{ℕ, [], ◌∷◌, List as Sequence, All, OnOk};
 ghost use Rattle.spec_model.specs.declared.log.LogItem.{LogItem as LogItemOf};
 ghost use Rattle.run_model.specs.Fitting.{SetupFits, WantFits};
 ghost use Rattle.message_laws.specs.Views.{View};
@@ -17,7 +17,6 @@ impl Draft<'_> {
     /// Gives a piece of what is held.
     fn give(&mut self, setup: &Setup, to: u32, want: &Want, piece: Piece) -> Result<(), NoMemory>
         requires setup { SetupFits setup.now }
-        requires partless { setup.now.plan.parts ≡ [] }
         requires fits { WantFits setup.now want.now }
         requires touched { IsTouched self.old.held want.now.right }
         requires wanted { (v : View) × (from : ℕ) × (before : Sequence LogItemOf) × IsDraft setup.now v from before self.old × IsWanted setup.now v from before want.now self.old piece }
@@ -36,7 +35,6 @@ impl Draft<'_> {
     /// Gives a part of what would be held to one who wants it.
     fn answer_want(&mut self, setup: &Setup, to: u32, want: &Want) -> Result<(), NoMemory>
         requires setup { SetupFits setup.now }
-        requires partless { setup.now.plan.parts ≡ [] }
         requires fits { WantFits setup.now want.now }
         requires draft { (v : View) × (from : ℕ) × (before : Sequence LogItemOf) × IsDraft setup.now v from before self.old }
         ensures { OnOk result ((v : View) (from : ℕ) (before : Sequence LogItemOf) → IsDraft setup.now v from before self.old → HasAnswered setup.now v from before to (want.now ∷ []) self.old self.new) }
@@ -57,7 +55,6 @@ impl Draft<'_> {
         wants: &[Want],
     ) -> Result<(), NoMemory>
         requires setup { SetupFits setup.now }
-        requires partless { setup.now.plan.parts ≡ [] }
         requires fits { All (WantFits setup.now) wants.now }
         requires draft { (v : View) × (from : ℕ) × (before : Sequence LogItemOf) × IsDraft setup.now v from before self.old }
         ensures { OnOk result ((v : View) (from : ℕ) (before : Sequence LogItemOf) → IsDraft setup.now v from before self.old → HasAnswered setup.now v from before to wants.now self.old self.new) }

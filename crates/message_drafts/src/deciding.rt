@@ -1,6 +1,6 @@
 //! What is applied of a message, and what is logged for it.
 
-ghost use Rattle.std.specs.Prelude.{◌≡◌, ◌≤◌, [], All, IfOk, length, take};
+ghost use Rattle.std.specs.Prelude.{◌≡◌, ◌≤◌, All, IfOk, length, take};
 ghost use Rattle.run_model.specs.Fitting.{ItemFits, SetupFits};
 ghost use Rattle.message_laws.specs.Views.{View};
 ghost use Rattle.message_drafts.specs.Drafts.{IsDecided};
@@ -40,7 +40,6 @@ pub(crate) fn ready_items<'a>(
     message: &'a Message,
 ) -> &'a [LogItem]
     requires setup { SetupFits setup.now }
-    requires partless { setup.now.plan.parts ≡ [] }
     requires addressed { IsAddressed setup.now me message.now }
     requires whole { length cut.now ≡ setup.now.replicas }
     ensures ready { AreReadyOf setup.now cut.now message.now.from (take 16 message.now.items) result.now }
@@ -65,7 +64,6 @@ pub(crate) fn decide(
     ready: &[LogItem],
 ) -> Result<Decided, NoMemory>
     requires setup { SetupFits setup.now }
-    requires partless { setup.now.plan.parts ≡ [] }
     requires addressed { IsAddressed setup.now me message.now }
     requires ready { AreReadyOf setup.now cut.now message.now.from (take 16 message.now.items) ready.now }
     requires few { length ready.now ≤ 16 }

@@ -1,12 +1,13 @@
 //! Tests of whether what a message brings fits the setup.
 
-ghost use Rattle.std.specs.Prelude.{◌≡◌, [], ◌↔◌, IfOk, IsTrue};
-ghost use Rattle.run_model.specs.Fitting.{AskFits, BodyFits, ItemFits, PieceFits, RightFits, SetupFits, WantFits};
+ghost use Rattle.std.specs.Prelude.{◌≡◌, ◌↔◌, IfOk, IsTrue};
+ghost use Rattle.run_model.specs.Fitting.{AskFits, BodyFits, ItemFits, PieceFits, PointsFit, SetupFits, WantFits};
 ghost use Rattle.run_model.specs.Rights as rights;
 ghost use Rattle.message_laws.specs.Heeded.{AreFitting};
 
 use effect_model::{inst_fits, right_fits};
-use ind_base::{List, NoMemory};
+use ind_base::{List, NoMemory, Span};
+use rights_table::points_all;
 use spec_model::{Body, LogItem, Piece, Right, Setup, Want, WantAsk};
 use std::alloc::Global;
 
@@ -32,37 +33,42 @@ fn is_shared(right: &Right) -> bool
     }
 }
 
-/// Whether a piece is one of a right of the setup, which has no partitions.
-fn piece_fits(setup: &Setup, right: &Right, piece: &Piece) -> bool
-    requires partless { setup.now.plan.parts ≡ [] }
-    requires right { RightFits setup.now right.now }
-    ensures { IsTrue result ↔ PieceFits setup.now right.now piece.now }
+/// Whether these are points of a partition, in ascending order.
+fn points_fit(setup: &Setup, right: &Right, span: &Span) -> bool
+    ensures { IsTrue result ↔ PointsFit setup.now right.now span.now }
 {
-    match *piece {
-        Piece::Count(count) => is_escrow(right) && 1 <= count && count <= u64::MAX,
-        Piece::Shares { shares, .. } => {
-            is_shared(right) && 1 <= shares && shares <= setup.replicas
-        }
-        Piece::Points(_) => false,
+    match right {
+        Right::Part { part, .. } => span.lo <= span.hi && span.hi < points_all(setup, *part),
+        _ => false,
     }
 }
 
-/// Whether an ask is one for a right of the setup, which has no partitions.
+/// Whether a piece is one of a right of the setup.
+fn piece_fits(setup: &Setup, right: &Right, piece: &Piece) -> bool
+    ensures { IsTrue result ↔ PieceFits setup.now right.now piece.now }
+{
+    match piece {
+        Piece::Count(count) => is_escrow(right) && 1 <= *count && *count <= u64::MAX,
+        Piece::Shares { shares, .. } => {
+            is_shared(right) && 1 <= *shares && *shares <= setup.replicas
+        }
+        Piece::Points(span) => points_fit(setup, right, span),
+    }
+}
+
+/// Whether an ask is one for a right of the setup.
 fn ask_fits(setup: &Setup, right: &Right, ask: &WantAsk) -> bool
-    requires partless { setup.now.plan.parts ≡ [] }
-    requires right { RightFits setup.now right.now }
     ensures { IsTrue result ↔ AskFits setup.now right.now ask.now }
 {
-    match *ask {
-        WantAsk::Count(count) => is_escrow(right) && count <= u64::MAX,
+    match ask {
+        WantAsk::Count(count) => is_escrow(right) && *count <= u64::MAX,
         WantAsk::Level(_) => is_shared(right),
-        WantAsk::Points(_) => false,
+        WantAsk::Points(span) => points_fit(setup, right, span),
     }
 }
 
 fn body_fits(setup: &Setup, body: &Body) -> bool
     requires setup { SetupFits setup.now }
-    requires partless { setup.now.plan.parts ≡ [] }
     ensures { IsTrue result ↔ BodyFits setup.now body.now }
 {
     match body {
@@ -77,7 +83,6 @@ fn body_fits(setup: &Setup, body: &Body) -> bool
 /// Whether an item fits the setup.
 pub(crate) fn item_fits(setup: &Setup, item: &LogItem) -> bool
     requires setup { SetupFits setup.now }
-    requires partless { setup.now.plan.parts ≡ [] }
     ensures { IsTrue result ↔ ItemFits setup.now item.now }
 {
     item.origin < setup.replicas
@@ -89,7 +94,6 @@ pub(crate) fn item_fits(setup: &Setup, item: &LogItem) -> bool
 /// Whether a want fits the setup.
 fn want_fits(setup: &Setup, want: &Want) -> bool
     requires setup { SetupFits setup.now }
-    requires partless { setup.now.plan.parts ≡ [] }
     ensures { IsTrue result ↔ WantFits setup.now want.now }
 {
     right_fits(setup, &want.right) && ask_fits(setup, &want.right, &want.ask)
@@ -102,7 +106,6 @@ pub(crate) fn fitting_wants(
     wants: &[Want],
 ) -> Result<List<Want>, NoMemory>
     requires setup { SetupFits setup.now }
-    requires partless { setup.now.plan.parts ≡ [] }
     ensures { IfOk result (AreFitting setup.now wants.now) }
 {
     let mut fitting = List::new(alloc);

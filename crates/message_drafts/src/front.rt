@@ -1,6 +1,6 @@
 //! The items of a message that are looked at.
 
-ghost use Rattle.std.specs.Prelude.{◌≡◌, ◌≤◌, [], ◌↔◌, IsTrue, length, slice_index, take};
+ghost use Rattle.std.specs.Prelude.{◌≡◌, ◌≤◌, ◌↔◌, IsTrue, length, slice_index, take};
 ghost use Rattle.run_model.specs.Fitting.{SetupFits};
 ghost use Rattle.message_drafts.specs.Fronts.{IsFront, IsItem, MayFollow, first_at};
 
@@ -46,7 +46,6 @@ fn is_item(from: u32, index: u64, item: &LogItem) -> bool
 /// Whether an item fits and is this one of the sender's log.
 fn may_follow(setup: &Setup, from: u32, index: u64, item: &LogItem) -> bool
     requires setup { SetupFits setup.now }
-    requires partless { setup.now.plan.parts ≡ [] }
     ensures { IsTrue result ↔ MayFollow setup.now from index item.now }
 {
     item_fits(setup, item) && is_item(from, index, item)
@@ -55,7 +54,6 @@ fn may_follow(setup: &Setup, from: u32, index: u64, item: &LogItem) -> bool
 /// How many of these items, which are few, stand in a row in the sender's log and fit.
 pub(crate) fn front_count(setup: &Setup, from: u32, items: &[LogItem]) -> usize
     requires setup { SetupFits setup.now }
-    requires partless { setup.now.plan.parts ≡ [] }
     requires few { length items.now ≤ 16 }
     ensures front { IsFront setup.now from items.now (take result items.now) }
     ensures within { result ≤ length items.now }

@@ -1,6 +1,6 @@
 //! Accepting what is given.
 
-ghost use Rattle.std.specs.Prelude.{◌≡◌, ℕ, [], ◌≤◌, List as Sequence, All, IfOk, length};
+ghost use Rattle.std.specs.Prelude.{◌≡◌, ℕ, ◌≤◌, List as Sequence, All, IfOk, length};
 ghost use Rattle.spec_model.specs.declared.log.Body.TheVariants as body;
 ghost use Rattle.spec_model.specs.declared.log.LogItem.{LogItem as LogItemOf};
 ghost use Rattle.run_model.specs.Fitting.{ItemFits, SetupFits};
@@ -22,7 +22,6 @@ impl Draft<'_> {
         piece: &Piece,
     ) -> Result<bool, NoMemory>
         requires setup { SetupFits setup.now }
-        requires partless { setup.now.plan.parts ≡ [] }
         requires fits { ItemFits setup.now item.now }
         requires next { (v : View) × (from : ℕ) × (before : Sequence LogItemOf) × IsNext v from before item.now × (item.now.body ≡ body.Out v.me right.now piece.now) × HasAccepted setup.now v from before self.old }
         ensures { IfOk result (λ joined. (v : View) (from : ℕ) (before : Sequence LogItemOf) → IsNext v from before item.now → item.now.body ≡ body.Out v.me right.now piece.now → HasAccepted setup.now v from before self.old → Joins setup.now v from before item.now joined self.new) }
@@ -44,7 +43,6 @@ impl Draft<'_> {
     /// applied.
     fn join_item(&mut self, setup: &Setup, me: u32, item: &LogItem) -> Result<bool, NoMemory>
         requires setup { SetupFits setup.now }
-        requires partless { setup.now.plan.parts ≡ [] }
         requires fits { ItemFits setup.now item.now }
         requires next { (v : View) × (from : ℕ) × (before : Sequence LogItemOf) × (v.me ≡ me) × IsNext v from before item.now × HasAccepted setup.now v from before self.old }
         ensures { IfOk result (λ joined. (v : View) (from : ℕ) (before : Sequence LogItemOf) → v.me ≡ me → IsNext v from before item.now → HasAccepted setup.now v from before self.old → Joins setup.now v from before item.now joined self.new) }
@@ -71,7 +69,6 @@ impl Draft<'_> {
         items: &[LogItem],
     ) -> Result<usize, NoMemory>
         requires setup { SetupFits setup.now }
-        requires partless { setup.now.plan.parts ≡ [] }
         requires fits { All (ItemFits setup.now) items.now }
         requires may { (v : View) × (from : ℕ) × MayJoin setup.now v me from items.now self.old }
         ensures within { IfOk result (λ count. count ≤ length items.now) }

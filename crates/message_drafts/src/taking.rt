@@ -1,6 +1,6 @@
 //! What a replica decides on a message.
 
-ghost use Rattle.std.specs.Prelude.{◌≡◌, ◌≤◌, ◌<◌, ◌+◌, ◌^◌, [], IfOk, length, slice_index};
+ghost use Rattle.std.specs.Prelude.{◌≤◌, ◌<◌, ◌+◌, ◌^◌, IfOk, length, slice_index};
 ghost use Rattle.spec_model.specs.declared.plan.Setup.{Setup as SetupOf};
 ghost use Rattle.run_model.specs.declared.message.Message.{Message as MessageOf};
 ghost use Rattle.run_model.specs.Fitting.{SetupFits};
@@ -70,7 +70,6 @@ fn take_addressed(
     message: &Message,
 ) -> Result<Taken, NoMemory>
     requires setup { SetupFits setup.now }
-    requires partless { setup.now.plan.parts ≡ [] }
     requires addressed { IsAddressed setup.now me message.now }
     requires sees { (v : View) × Sees setup.now v me cut.now table.now }
     ensures { IfOk result (λ taken. (v : View) → Sees setup.now v me cut.now table.now → TakesHeeded setup.now v message.now taken) }
@@ -97,7 +96,6 @@ pub fn take(
     message: &Message,
 ) -> Result<Taken, NoMemory>
     requires setup { SetupFits setup.now }
-    requires partless { setup.now.plan.parts ≡ [] }
     requires few { setup.now.replicas ≤ 16 }
     requires sees { (v : View) × Sees setup.now v me cut.now table.now }
     ensures { IfOk result (λ taken. (v : View) → Sees setup.now v me cut.now table.now → TakesHeeded setup.now v message.now taken) }

@@ -15,7 +15,8 @@ use Rattle.spec_model.specs.declared.log.Body.TheVariants as body
 use Rattle.spec_model.specs.declared.log.LogItem.{LogItem}
 use Rattle.run_model.specs.Holding.{mode_of, out_mode, piece_mode}
 use Rattle.run_model.specs.Logs.{Logs, item_at}
-use Rattle.run_model.specs.Rights.{body_gains, body_loses, even_share, first_total, held_count, out_gives, piece_count, same_right}
+use Rattle.run_model.specs.Points.{first_point, out_point, piece_point, point_count}
+use Rattle.run_model.specs.Rights.{accept_brings, body_gains, body_loses, even_share, first_total, held_count, out_gives, out_of, piece_count, same_right}
 use Rattle.run_model.specs.Shares.{GivesIn}
 use Rattle.run_model.specs.Steps.{accept_of, accepts_of}
 use Rattle.run_model.specs.Worlds.{Standing, logged, logged_all}
@@ -29,41 +30,56 @@ AreThere logs items = AllByRecursion (λ x. item_at logs x.origin x.index ≡ So
 
 -- ---- how many
 
--- an Accept brings what its Out gives
-count_accept : (setup : Setup) (logs : Logs) (me : ℕ) (p : Standing) (from at : ℕ) (x : LogItem) (r : Right) → item_at logs from at ≡ Some x → held_count setup logs me (logged me (body.Accept from at) p).log r ≤ held_count setup logs me p.log r + out_gives r x.body
-count_accept setup logs me p from at x r there =
+-- of what is held after items of its own, by what is counted of a piece, an Accept adds no more than its Out gives
+abbrev pub AddsAtMost : Logs → ℕ → (Piece → ℕ) → Right → (List LogItem → ℕ) → Type 0
+AddsAtMost logs me counted r have = (p : Standing) (from at : ℕ) (x : LogItem) → item_at logs from at ≡ Some x → have (logged me (body.Accept from at) p).log ≤ have p.log + out_of counted r x.body
+
+-- what is there at the start and gained, less what is lost
+more_held : (first gained lost more less g : ℕ) → more ≡ gained + g → less ≡ lost + 0 → (first + more) - less ≤ ((first + gained) - lost) + g
+more_held first gained lost more less g a b = omega (arith, a, b)
+
+-- so of counts and shares
+pub count_accept : (setup : Setup) (logs : Logs) (me : ℕ) (r : Right) → AddsAtMost logs me piece_count r (λ own. held_count setup logs me own r)
+count_accept setup logs me r p from at x there =
     let item : LogItem = record { origin = me; index = length p.log; deps = p.cut; body = body.Accept from at } in
     let gains = λ (i : LogItem). body_gains setup.spec logs r i.body in
     let loses = λ (i : LogItem). body_loses setup.spec r i.body in
     let brings : gains item ≡ out_gives r x.body = ap (λ (o : Option LogItem). option_map_or (λ (out : LogItem). out_gives r out.body) o 0) there in
-    sums (even_share (first_total setup r) setup.replicas me) (sum_by gains p.log) (sum_by loses p.log) (sum_by gains (p.log ++ item ∷ [])) (sum_by loses (p.log ++ item ∷ [])) (out_gives r x.body)
+    more_held (even_share (first_total setup r) setup.replicas me) (sum_by gains p.log) (sum_by loses p.log) (sum_by gains (p.log ++ item ∷ [])) (sum_by loses (p.log ++ item ∷ [])) (out_gives r x.body)
     (sum_by_push gains p.log item ∙ ap (λ n. sum_by gains p.log + n) brings) (sum_by_push loses p.log item)
-  where
-    sums : (share gained lost more less g : ℕ) → more ≡ gained + g → less ≡ lost + 0 → (share + more) - less ≤ ((share + gained) - lost) + g
-    sums share gained lost more less g a b = omega (arith, a, b)
+
+-- and of each point
+pub point_accept : (setup : Setup) (logs : Logs) (me : ℕ) (r : Right) (point : ℕ) → AddsAtMost logs me (piece_point point) r (λ own. point_count setup logs me own r point)
+point_accept setup logs me r point p from at x there =
+    let item : LogItem = record { origin = me; index = length p.log; deps = p.cut; body = body.Accept from at } in
+    let gains = λ (i : LogItem). accept_brings logs (out_point r point) i.body in
+    let loses = λ (i : LogItem). out_point r point i.body in
+    let brings : gains item ≡ out_point r point x.body = ap (λ (o : Option LogItem). option_map_or (λ (out : LogItem). out_point r point out.body) o 0) there in
+    more_held (first_point setup me r point) (sum_by gains p.log) (sum_by loses p.log) (sum_by gains (p.log ++ item ∷ [])) (sum_by loses (p.log ++ item ∷ [])) (out_point r point x.body)
+    (sum_by_push gains p.log item ∙ ap (λ n. sum_by gains p.log + n) brings) (sum_by_push loses p.log item)
 
 -- after the Accept of one item, if it is an Out to this replica
-count_one : (setup : Setup) (logs : Logs) (me : ℕ) (p : Standing) (x : LogItem) (r : Right) (b : Body) → x.body ≡ b → item_at logs x.origin x.index ≡ Some x
-    → held_count setup logs me (logged_all me (accept_of me x.origin x.index b) p).log r ≤ held_count setup logs me p.log r + gives_to me r b
-count_one setup logs me p x r (body.Act inst) is there = omega arith
-count_one setup logs me p x r (body.Accept from at) is there = omega arith
-count_one setup logs me p x r (body.Out to s pc) is there = by_test (to == me)
+count_one : (logs : Logs) (me : ℕ) (counted : Piece → ℕ) (r : Right) (have : List LogItem → ℕ) → AddsAtMost logs me counted r have → (p : Standing) (x : LogItem) (b : Body) → x.body ≡ b → item_at logs x.origin x.index ≡ Some x
+    → have (logged_all me (accept_of me x.origin x.index b) p).log ≤ have p.log + gives_to me counted r b
+count_one logs me counted r have adds p x (body.Act inst) is there = omega arith
+count_one logs me counted r have adds p x (body.Accept from at) is there = omega arith
+count_one logs me counted r have adds p x (body.Out to s pc) is there = by_test (to == me)
   where
-    by_test : (t : Bool) → held_count setup logs me (logged_all me (cond t (body.Accept x.origin x.index ∷ []) []) p).log r ≤ held_count setup logs me p.log r + cond t (out_gives r (body.Out to s pc)) 0
-    by_test true = let one = count_accept setup logs me p x.origin x.index x r there in omega (arith, one, ap (out_gives r) is)
+    by_test : (t : Bool) → have (logged_all me (cond t (body.Accept x.origin x.index ∷ []) []) p).log ≤ have p.log + cond t (out_of counted r (body.Out to s pc)) 0
+    by_test true = let one = adds p x.origin x.index x there in omega (arith, one, ap (out_of counted r) is)
     by_test false = omega arith
 
 -- after those of several
-pub count_after : (setup : Setup) (logs : Logs) (me : ℕ) (p : Standing) (items : List LogItem) (r : Right) → AreThere logs items
-    → held_count setup logs me (logged_all me (accepts_of me items) p).log r ≤ held_count setup logs me p.log r + sum_by (λ item. gives_to me r item.body) items
-count_after setup logs me p [] r there = omega arith
-count_after setup logs me p (x ∷ xs) r there =
+pub count_after : (logs : Logs) (me : ℕ) (counted : Piece → ℕ) (r : Right) (have : List LogItem → ℕ) → AddsAtMost logs me counted r have → (p : Standing) (items : List LogItem) → AreThere logs items
+    → have (logged_all me (accepts_of me items) p).log ≤ have p.log + sum_by (λ item. gives_to me counted r item.body) items
+count_after logs me counted r have adds p [] there = omega arith
+count_after logs me counted r have adds p (x ∷ xs) there =
     let first : List Body = accept_of me x.origin x.index x.body in
     let q : Standing = logged_all me first p in
-    let one = count_one setup logs me p x r x.body refl there.0 in
-    let rest = count_after setup logs me q xs r there.1 in
+    let one = count_one logs me counted r have adds p x x.body refl there.0 in
+    let rest = count_after logs me counted r have adds q xs there.1 in
     let parts = logged_append me first (accepts_of me xs) p in
-    omega (arith, one, rest, ap (λ (s : Standing). held_count setup logs me s.log r) parts, sum_by-cons (λ (i : LogItem). gives_to me r i.body) x xs)
+    omega (arith, one, rest, ap (λ (s : Standing). have s.log) parts, sum_by-cons (λ (i : LogItem). gives_to me counted r i.body) x xs)
 
 -- ---- in which mode
 
@@ -84,7 +100,7 @@ mode_accept setup logs me p from at x to s r pc m there is gives holds some =
     let item : LogItem = record { origin = me; index = length p.log; deps = p.cut; body = body.Accept from at } in
     let have : ℕ = held_count setup logs me p.log r in
     let old : Mode = mode_of setup logs me p.log r in
-    let count = count_accept setup logs me p from at x r there in
+    let count = count_accept setup logs me r p from at x there in
     mode_push setup logs me p.log item r ∙ ap (λ (o : Option LogItem). if have == 0 then option_map_or (λ (out : LogItem). out_mode r out.body old) o old else old) there ∙ ap (λ (b : Body). if have == 0 then out_mode r b old else old) is
     ∙ by_count have (have == 0) refl old holds (omega (arith, count, some, ap (out_gives r) is))
   where

@@ -1,83 +1,44 @@
 -- In a run a replica can accept all that is on its way to it, and heeds whole what was sent to it.
-use Rattle.std.proofs.Common.{◌≡◌, ℕ, ◌+◌, ◌<◌, ◌≤◌, Bool, true, false, not, nat_lt, ◌==◌, List, [], ◌∷◌, ◌++◌, length, take, drop, refl, sym, ap, subst, ◌∙◌, arith, eqb-true, eq-eqb}
-use Rattle.std.specs.Prelude.{slice_get, slice_index, Some, sum_by}
+use Rattle.std.proofs.Common.{◌≡◌, inl, inr, ℕ, ◌+◌, ◌<◌, ◌≤◌, true, cond, nat_lt, List, [], ◌∷◌, ◌++◌, length, take, drop, refl, sym, ap, subst, ◌∙◌, arith, eqb-true, eq-eqb, le-ltb}
+use Rattle.std.specs.Prelude.{slice_get, slice_index, Some}
 use Rattle.std.specs.List.{AllByRecursion}
-use Rattle.std.proofs.lemmas.Bool.{cond-true, ltb-false}
+use Rattle.std.proofs.lemmas.Bool.{cond_both, ltb-false}
 use Rattle.std.proofs.lemmas.Option.{slice_get_within}
-use Rattle.std.proofs.lemmas.List.{append_assoc, take-append-drop, take_all}
-use Rattle.std.proofs.lemmas.List.Elements.{filter-append}
-use Rattle.std.proofs.lemmas.List.Sums.{sum_by_push}
+use Rattle.std.proofs.lemmas.List.{append_assoc, take-append-drop}
 use Rattle.spec_model.specs.declared.plan.Setup.{Setup}
 use Rattle.spec_model.specs.declared.right.Piece.{Piece}
 use Rattle.spec_model.specs.declared.right.Piece.TheVariants as piece
 use Rattle.spec_model.specs.declared.right.Right.{Right}
+use Rattle.spec_model.specs.declared.right.Right.TheVariants as right
 use Rattle.spec_model.specs.declared.log.Body.{Body}
 use Rattle.spec_model.specs.declared.log.Body.TheVariants as body
 use Rattle.spec_model.specs.declared.log.LogItem.{LogItem}
 use Rattle.run_model.specs.Allowed.{span_given}
 use Rattle.run_model.specs.Balance.{IsConserved}
 use Rattle.run_model.specs.Fitting.{BodyFits, ItemFits}
-use Rattle.run_model.specs.Holding.{mode_of}
-use Rattle.run_model.specs.Locals.{Knows}
-use Rattle.run_model.specs.Logs.{IsIn, Logs, item_at, log_at, own_in}
+use Rattle.run_model.specs.Holding.{held_right, mode_of}
+use Rattle.run_model.specs.Logs.{IsIn, Logs, item_at, log_at}
 use Rattle.run_model.specs.Passing.{can_accept}
-use Rattle.run_model.specs.Rights.{held_count, out_gives, piece_count, same_right}
+use Rattle.run_model.specs.Points.{piece_point, point_count, points_all}
+use Rattle.run_model.specs.Rights.{held_count, piece_count}
 use Rattle.run_model.specs.Shares.{GivesIn, HasOneMode}
-use Rattle.run_model.specs.Steps.{accepts_of, cut_after, unseen}
-use Rattle.run_model.specs.Worlds.{Standing, logged_all}
+use Rattle.run_model.specs.Steps.{cut_after, unseen}
+use Rattle.run_model.specs.Worlds.{Standing}
 use Rattle.run_model.proofs.Alike.{right_alike}
 use Rattle.run_model.proofs.Answers.{IsPart}
-use Rattle.run_model.proofs.Growth.{IsStanding}
-use Rattle.run_model.proofs.Kept.{IsNext}
 use Rattle.run_model.proofs.Lists.{each_at, each_weaker, get_behind, get_front}
 use Rattle.run_model.proofs.OneMode.{one_mode}
-use Rattle.run_model.proofs.Premises.{AreHeld}
+use Rattle.run_model.proofs.Standing.{points_balance}
 use Rattle.message_laws.specs.Heeded.{CanAccept, JoinsAfter, held_after, with_items}
 use Rattle.message_laws.specs.Views.{View, standing_in}
-use Rattle.message_laws.proofs.Accepting.{AreThere, GivesToIn, count_after, mode_after}
-use Rattle.message_laws.proofs.Flight.{HasSeen, all_consistent, count_at, full_cut, gives_to, not_accepted, part_in_flight}
-use Rattle.message_laws.proofs.Joining.{joins}
-use Rattle.message_laws.proofs.Lists.{take_at, term_small}
+use Rattle.message_laws.proofs.Accepting.{GivesToIn, count_accept, mode_after, point_accept}
+use Rattle.message_laws.proofs.Flight.{all_consistent, count_at, full_cut, not_accepted}
+use Rattle.message_laws.proofs.Given.{IsGiven, IsHere, applied_there, holds_given, own_after, own_known, own_whole}
+use Rattle.message_laws.proofs.Joining.{joins, part_joins}
+use Rattle.message_laws.proofs.Lists.{take_at}
 use Rattle.message_laws.proofs.Onway.{IsApplied, IsNew, IsSender, each_new, front_ready, known_alike, next_of}
-use Rattle.message_laws.proofs.Limits.{AreSmall, limit, there_are}
-use Rattle.message_laws.proofs.Rights.{right_conserved, right_self}
-
--- replica me among these logs, how it stands, and what it knows
-pub record IsHere (setup : Setup) (logs : Logs) (me : ℕ) (p : Standing) (known : Logs) : Type 0 where
-  pub small : AreSmall setup logs
-  pub held : AreHeld setup logs
-  pub whole : setup.plan.parts ≡ []
-  pub stands : IsStanding me p.log p.cut
-  pub seen : HasSeen logs me p.cut
-  pub own : log_at logs me ≡ p.log
-  pub among : me < length logs
-  pub knows : Knows logs p.cut known
-  pub long : length known ≡ length p.cut
-
--- its own log is what it knows of it
-own_known : (setup : Setup) (logs : Logs) (me : ℕ) (p : Standing) (known : Logs) → IsHere setup logs me p known → log_at known me ≡ p.log
-own_known setup logs me p known h = h.knows me ∙ ap (take (slice_index p.cut me)) h.own ∙ take_all (slice_index p.cut me) p.log (omega (arith, h.stands.whole))
-
--- and what it holds in the cut of all items
-own_whole : (setup : Setup) (logs : Logs) (me : ℕ) (p : Standing) (known : Logs) → IsHere setup logs me p known → own_in (full_cut logs) logs me ≡ p.log
-own_whole setup logs me p known h = take_all (slice_index (full_cut logs) me) (log_at logs me) (omega (arith, count_at logs me)) ∙ h.own
-
--- ---- how many
-
--- what it holds, and what was given to it by a part of a log and it hasn't seen
-pub bearable : (setup : Setup) (logs : Logs) (me from : ℕ) (p : Standing) (known : Logs) (r : Right) (part : List LogItem) → IsHere setup logs me p known → IsConserved setup.spec r → IsPart (log_at logs from) part
-    → held_count setup logs me p.log r + sum_by (λ i. gives_to me r i.body) (unseen p.cut part) ≤ limit setup r
-bearable setup logs me from p known r part h conserved is =
-    let full : List ℕ = full_cut logs in
-    let term = term_small (λ (k : ℕ). held_count setup logs k (own_in full logs k) r) (length logs) me h.among in
-    let mine = ap (λ (own : List LogItem). held_count setup logs me own r) (own_whole setup logs me p known h) in
-    let flight = part_in_flight logs me from p.cut r part h.seen is in
-    let all = there_are setup logs full r h.small h.held (all_consistent logs h.held.named) conserved in
-    omega (arith, term, mine, flight, all)
-
--- an Out to it gives its piece
-gives_piece : (me to : ℕ) (r : Right) (pc : Piece) → to ≡ me → gives_to me r (body.Out to r pc) ≡ piece_count pc
-gives_piece me to r pc mine = cond-true (to == me) (out_gives r (body.Out to r pc)) 0 (eq-eqb to me mine) ∙ cond-true (same_right r r) (piece_count pc) 0 (right_self r)
+use Rattle.message_laws.proofs.Limits.{limit, there_are}
+use Rattle.message_laws.proofs.Rights.{right_kind, right_self}
 
 -- ---- in which mode
 
@@ -96,47 +57,60 @@ new_gives setup logs me from p known r x h one new = by_body x.body refl
 
 -- ---- an item
 
--- what was applied before, and the next item, which gives a piece to it
-pub record IsGiven (setup : Setup) (logs : Logs) (me from : ℕ) (p : Standing) (before : List LogItem) (item : LogItem) (r : Right) (pc : Piece) : Type 0 where
-  pub part : IsPart (log_at logs from) (before ++ item ∷ [])
-  pub next : IsNext logs me from p.cut (unseen p.cut before)
-  pub fresh : nat_lt item.index (slice_index p.cut item.origin) ≡ false
-  pub new : IsNew logs from p.cut item
-  pub fits : ItemFits setup item
-  pub gives : item.body ≡ body.Out me r pc
+-- of a right that is conserved it can be accepted
+whole_joins : (setup : Setup) (logs : Logs) (me from : ℕ) (p : Standing) (known : Logs) (before : List LogItem) (item : LogItem) (r : Right) (pc : Piece) → IsHere setup logs me p known → IsGiven setup logs me from p before item r pc → IsConserved setup.spec r
+    → can_accept setup.replicas (held_right setup logs me (own_after me known p (unseen p.cut before)) r (span_given pc)) pc ≡ true
+whole_joins setup logs me from p known before item r pc h g conserved =
+    let v : View = record { me = me; known = known; cut = p.cut } in
+    let applied : List LogItem = unseen p.cut before in
+    let q : Standing = record (standing_in v) { cut = cut_after p.cut applied } in
+    let own : List LogItem = own_after me known p applied in
+    let same : q.log ≡ p.log = own_known setup logs me p known h in
+    let full = all_consistent logs h.held.named in
+    let fits = subst (BodyFits setup) g.gives g.fits.body in
+    let le : held_count setup logs me own r + piece_count pc ≤ limit setup r =
+    holds_given setup logs me from p known before item r pc piece_count (λ (k : ℕ) (l : List LogItem). held_count setup logs k l r) (limit setup r) h g (count_accept setup logs me r) (there_are setup logs (full_cut logs) r h.small h.held full conserved) in
+    joins setup logs me own r (span_given pc) pc conserved fits.2 le (λ shared some.
+    let one = one_mode setup logs (full_cut logs) r h.held shared full in
+    let all = each_weaker (IsApplied logs from p.cut (length applied)) (λ (x : LogItem). GivesToIn me r one.mode x.body) (λ x new. new_gives setup logs me from p known r x h one new.new) applied (each_new logs me from p.cut applied g.next) in
+    let first : 0 < held_count setup logs me q.log r → mode_of setup logs me q.log r ≡ one.mode =
+    subst (λ (l : List LogItem). 0 < held_count setup logs me l r → mode_of setup logs me l r ≡ one.mode) (own_whole setup logs me p known h ∙ sym same) (one.held me h.among) in
+    let last = mode_after setup logs me q applied r one.mode (applied_there logs me from p.cut applied g.next) all first some in
+    let mine = subst (GivesToIn me r one.mode) g.gives (new_gives setup logs me from p known r item h one g.new) in
+    mine (eq-eqb me me refl) (right_self r) ∙ ap (piece.Shares (piece_count pc)) (sym last))
 
--- it can be accepted
-pub given_joins : (setup : Setup) (logs : Logs) (me from : ℕ) (p : Standing) (known : Logs) (before : List LogItem) (item : LogItem) (r : Right) (pc : Piece) → IsHere setup logs me p known → IsGiven setup logs me from p before item r pc
+-- and of a partition: none of its points is held, since each stands once
+parted_joins : (setup : Setup) (logs : Logs) (me from : ℕ) (p : Standing) (known : Logs) (before : List LogItem) (item : LogItem) (part : ℕ) (key : List ℕ) (pc : Piece) → IsHere setup logs me p known → IsGiven setup logs me from p before item (right.Part part key) pc
+    → can_accept setup.replicas (held_right setup logs me (own_after me known p (unseen p.cut before)) (right.Part part key) (span_given pc)) pc ≡ true
+parted_joins setup logs me from p known before item part key pc h g =
+    let r : Right = right.Part part key in
+    let own : List LogItem = own_after me known p (unseen p.cut before) in
+    let fits = subst (BodyFits setup) g.gives g.fits.body in
+    part_joins setup logs me own part key pc fits.2 (λ x some.
+    let all : ℕ = points_all setup part in
+    let balance = points_balance setup logs (full_cut logs) part key x h.held (all_consistent logs h.held.named) in
+    let one : cond (nat_lt x all) 1 0 ≤ 1 = cond_both (nat_lt x all) 1 0 (λ n. n ≤ 1) (λ y. omega arith) (λ y. omega arith) in
+    let le : point_count setup logs me own r x + piece_point x pc ≤ 1 =
+    holds_given setup logs me from p known before item r pc (piece_point x) (λ (k : ℕ) (l : List LogItem). point_count setup logs k l r x) 1 h g (point_accept setup logs me r x) (omega (arith, balance, one)) in
+    le-ltb 0 (point_count setup logs me own r x) (omega (arith, le, some)))
+
+-- by the logs, and so by what it knows
+given_joins : (setup : Setup) (logs : Logs) (me from : ℕ) (p : Standing) (known : Logs) (before : List LogItem) (item : LogItem) (r : Right) (pc : Piece) → IsHere setup logs me p known → IsGiven setup logs me from p before item r pc
     → can_accept setup.replicas (held_after setup (record { me = me; known = known; cut = p.cut }) from (unseen p.cut before) r (span_given pc)) pc ≡ true
 given_joins setup logs me from p known before item r pc h g =
     let v : View = record { me = me; known = known; cut = p.cut } in
     let applied : List LogItem = unseen p.cut before in
     let q : Standing = record (standing_in v) { cut = cut_after p.cut applied } in
-    let own : List LogItem = (logged_all me (accepts_of me applied) q).log in
-    let same : q.log ≡ p.log = own_known setup logs me p known h in
+    let own : List LogItem = own_after me known p applied in
     let fits = subst (BodyFits setup) g.gives g.fits.body in
-    let conserved = right_conserved setup r h.whole fits.1 in
-    let alike = right_alike setup (with_items from applied known) logs me own r (span_given pc) (known_alike logs me from known applied p q h.stands h.knows h.long g.next same) in
-    let news = each_new logs me from p.cut applied g.next in
-    let there : AreThere logs applied = each_weaker (IsApplied logs from p.cut (length applied)) (λ (x : LogItem). item_at logs x.origin x.index ≡ Some x)
-    (λ x new. ap (λ i. item_at logs i x.index) new.new.origin ∙ new.new.there) applied news in
-    let count = count_after setup logs me q applied r there in
-    let fresh : LogItem → Bool = λ x. not (nat_lt x.index (slice_index p.cut x.origin)) in
-    let split : unseen p.cut (before ++ item ∷ []) ≡ applied ++ item ∷ [] = filter-append fresh before (item ∷ []) ∙ ap (λ (l : List LogItem). applied ++ l) (cond-true (fresh item) (item ∷ []) [] (ap not g.fresh)) in
-    let gives = λ (i : LogItem). gives_to me r i.body in
-    let piece_is : gives item ≡ piece_count pc = ap (gives_to me r) g.gives ∙ gives_piece me me r pc refl in
-    let most = bearable setup logs me from p known r (before ++ item ∷ []) h conserved g.part in
-    let le : held_count setup logs me own r + piece_count pc ≤ limit setup r =
-    omega (arith, count, most, ap (λ (l : List LogItem). held_count setup logs me l r) same, ap (sum_by gives) split, sum_by_push gives applied item, piece_is) in
+    let alike = right_alike setup (with_items from applied known) logs me own r (span_given pc) (known_alike logs me from known applied p q h.stands h.knows h.long g.next (own_known setup logs me p known h)) in
     ap (λ x. can_accept setup.replicas x pc) alike
-    ∙ joins setup logs me own r (span_given pc) pc conserved fits.2 le (λ shared some.
-    let one = one_mode setup logs (full_cut logs) r h.held shared (all_consistent logs h.held.named) in
-    let all = each_weaker (IsApplied logs from p.cut (length applied)) (λ (x : LogItem). GivesToIn me r one.mode x.body) (λ x new. new_gives setup logs me from p known r x h one new.new) applied news in
-    let first : 0 < held_count setup logs me q.log r → mode_of setup logs me q.log r ≡ one.mode =
-    subst (λ (l : List LogItem). 0 < held_count setup logs me l r → mode_of setup logs me l r ≡ one.mode) (own_whole setup logs me p known h ∙ sym same) (one.held me h.among) in
-    let last = mode_after setup logs me q applied r one.mode there all first some in
-    let mine = subst (GivesToIn me r one.mode) g.gives (new_gives setup logs me from p known r item h one g.new) in
-    mine (eq-eqb me me refl) (right_self r) ∙ ap (piece.Shares (piece_count pc)) (sym last))
+    ∙ elim (right_kind setup r fits.1) [
+      | inl conserved ↦ whole_joins setup logs me from p known before item r pc h g conserved
+      | inr of_part ↦
+          subst (λ (s : Right). IsGiven setup logs me from p before item s pc → can_accept setup.replicas (held_right setup logs me own s (span_given pc)) pc ≡ true) (sym of_part.2)
+          (parted_joins setup logs me from p known before item of_part.0 of_part.1 pc h) g
+    ]
 
 -- ---- each item of a part
 

@@ -12,7 +12,7 @@ use Rattle.spec_model.specs.declared.log.Body.TheVariants as body
 use Rattle.spec_model.specs.declared.log.LogItem.{LogItem}
 use Rattle.run_model.specs.Balance.{AcceptsOwn}
 use Rattle.run_model.specs.Logs.{accepts, is_accepted, AreLogs, IsConsistent, IsIn, Logs, item_at, items_in, log_at}
-use Rattle.run_model.specs.Rights.{flight_of, out_gives}
+use Rattle.run_model.specs.Rights.{flight_of, out_of}
 use Rattle.run_model.specs.Steps.{unseen}
 use Rattle.run_model.proofs.Answers.{IsPart}
 use Rattle.run_model.proofs.Counting.{any_there, sum_filter}
@@ -51,11 +51,11 @@ all_consistent logs are = record {
 
 -- ---- what is on its way
 
--- how many of a right a body gives to replica me
-abbrev pub gives_to : ℕ → Right → Body → ℕ
-gives_to me r (body.Act inst) = 0
-gives_to me r (body.Out to given piece) = if to == me then out_gives r (body.Out to given piece) else 0
-gives_to me r (body.Accept from at) = 0
+-- what a body gives of a right to replica me, by what is counted of a piece
+abbrev pub gives_to : ℕ → (Piece → ℕ) → Right → Body → ℕ
+gives_to me counted r (body.Act inst) = 0
+gives_to me counted r (body.Out to given piece) = if to == me then out_of counted r (body.Out to given piece) else 0
+gives_to me counted r (body.Accept from at) = 0
 
 -- replica me has seen all of its own log, and nothing without its past
 pub record HasSeen (logs : Logs) (me : ℕ) (cut : List ℕ) : Type 0 where
@@ -90,9 +90,9 @@ not_accepted logs me from at cut cut' x r piece h here new is = elim (cases_Bool
 ]
 
 -- an item that it hasn't seen gives to it no more than is in flight of it
-gives_in_flight : (logs : Logs) (me from at : ℕ) (cut cut' : List ℕ) (r : Right) (x : LogItem) → HasSeen logs me cut → item_at logs from at ≡ Some x
-    → cond (not (nat_lt x.index (slice_index cut x.origin))) (gives_to me r x.body) 0 ≤ cond (not (is_accepted (items_in cut' logs) x)) (out_gives r x.body) 0
-gives_in_flight logs me from at cut cut' r x h here = by_body x.body refl
+gives_in_flight : (logs : Logs) (me from at : ℕ) (cut cut' : List ℕ) (counted : Piece → ℕ) (r : Right) (x : LogItem) → HasSeen logs me cut → item_at logs from at ≡ Some x
+    → cond (not (nat_lt x.index (slice_index cut x.origin))) (gives_to me counted r x.body) 0 ≤ cond (not (is_accepted (items_in cut' logs) x)) (out_of counted r x.body) 0
+gives_in_flight logs me from at cut cut' counted r x h here = by_body x.body refl
   where
     fresh : Bool
     fresh = not (nat_lt x.index (slice_index cut x.origin))
@@ -111,36 +111,36 @@ gives_in_flight logs me from at cut cut' r x h here = by_body x.body refl
         not_less true e = absurd cc
         not_less false e = refl
 
-    by_body : (b : Body) → x.body ≡ b → cond fresh (gives_to me r x.body) 0 ≤ cond (not (is_accepted (items_in cut' logs) x)) (out_gives r x.body) 0
-    by_body (body.Act inst) is = none fresh (gives_to me r x.body) _ (ap (gives_to me r) is)
-    by_body (body.Accept origin index) is = none fresh (gives_to me r x.body) _ (ap (gives_to me r) is)
+    by_body : (b : Body) → x.body ≡ b → cond fresh (gives_to me counted r x.body) 0 ≤ cond (not (is_accepted (items_in cut' logs) x)) (out_of counted r x.body) 0
+    by_body (body.Act inst) is = none fresh (gives_to me counted r x.body) _ (ap (gives_to me counted r) is)
+    by_body (body.Accept origin index) is = none fresh (gives_to me counted r x.body) _ (ap (gives_to me counted r) is)
     by_body (body.Out to s piece) is = elim (cases_Bool (nat_eq to me)) [
-      | inr other ↦ none fresh (gives_to me r x.body) _ (ap (gives_to me r) is ∙ cond-false (nat_eq to me) (out_gives r (body.Out to s piece)) 0 other)
+      | inr other ↦ none fresh (gives_to me counted r x.body) _ (ap (gives_to me counted r) is ∙ cond-false (nat_eq to me) (out_of counted r (body.Out to s piece)) 0 other)
       | inl same ↦ elim (cases_Bool fresh) [
-        | inr seen ↦ omega (arith, cond-false fresh (gives_to me r x.body) 0 seen)
+        | inr seen ↦ omega (arith, cond-false fresh (gives_to me counted r x.body) 0 seen)
         | inl new ↦
             let free = not_accepted logs me from at cut cut' x s piece h here (behind new) (is ∙ ap (λ n. body.Out n s piece) (eqb-true to me same)) in
-            let gives : gives_to me r x.body ≡ out_gives r x.body = ap (gives_to me r) is ∙ cond-true (nat_eq to me) (out_gives r (body.Out to s piece)) 0 same ∙ sym (ap (out_gives r) is) in
-            omega (arith, cond-true fresh (gives_to me r x.body) 0 new, gives, cond-true (not (is_accepted (items_in cut' logs) x)) (out_gives r x.body) 0 (ap not free))
+            let gives : gives_to me counted r x.body ≡ out_of counted r x.body = ap (gives_to me counted r) is ∙ cond-true (nat_eq to me) (out_of counted r (body.Out to s piece)) 0 same ∙ sym (ap (out_of counted r) is) in
+            omega (arith, cond-true fresh (gives_to me counted r x.body) 0 new, gives, cond-true (not (is_accepted (items_in cut' logs) x)) (out_of counted r x.body) 0 (ap not free))
       ]
     ]
 
 -- nor do several that stand in a row in a log
-pub part_in_flight : (logs : Logs) (me from : ℕ) (cut : List ℕ) (r : Right) (part : List LogItem) → HasSeen logs me cut → IsPart (log_at logs from) part
-    → sum_by (λ i. gives_to me r i.body) (unseen cut part) ≤ flight_of (out_gives r) (items_in (full_cut logs) logs)
-part_in_flight logs me from cut r part h is =
+pub part_in_flight : (logs : Logs) (me from : ℕ) (cut : List ℕ) (counted : Piece → ℕ) (r : Right) (part : List LogItem) → HasSeen logs me cut → IsPart (log_at logs from) part
+    → sum_by (λ i. gives_to me counted r i.body) (unseen cut part) ≤ flight_of (out_of counted r) (items_in (full_cut logs) logs)
+part_in_flight logs me from cut counted r part h is =
     let all : List ℕ = full_cut logs in
     let items : List LogItem = items_in all logs in
     let fresh : LogItem → Bool = λ x. not (nat_lt x.index (slice_index cut x.origin)) in
     let free : LogItem → Bool = λ x. not (is_accepted items x) in
-    let v : LogItem → ℕ = λ x. cond (fresh x) (gives_to me r x.body) 0 in
-    let w : LogItem → ℕ = λ x. cond (free x) (out_gives r x.body) 0 in
-    let one = sum_filter fresh (λ (x : LogItem). gives_to me r x.body) part in
+    let v : LogItem → ℕ = λ x. cond (fresh x) (gives_to me counted r x.body) 0 in
+    let w : LogItem → ℕ = λ x. cond (free x) (out_of counted r x.body) 0 in
+    let one = sum_filter fresh (λ (x : LogItem). gives_to me counted r x.body) part in
     let two = sum_upto v w part (λ k x there.
-    gives_in_flight logs me from (length is.front + k) cut all r x h
+    gives_in_flight logs me from (length is.front + k) cut all counted r x h
     (ap (λ (l : List LogItem). slice_get l (length is.front + k)) is.is ∙ get_behind is.front (part ++ is.behind) k ∙ get_front part is.behind k x there)) in
     let three = sum_by-append w is.front (part ++ is.behind) in
     let four = sum_by-append w part is.behind in
     let five = log_within w logs from in
-    let six = sum_filter free (λ (x : LogItem). out_gives r x.body) items in
+    let six = sum_filter free (λ (x : LogItem). out_of counted r x.body) items in
     omega (arith, one, two, three, four, five, six, ap (sum_by w) is.is)

@@ -5,7 +5,7 @@ pub mod Keyed
 pub mod Spent
 pub mod Masked
 pub mod NeedsFit
-pub mod Partless
+pub mod Runs
 pub mod Wanted
 pub mod Logged
 pub mod Answered
@@ -16,6 +16,7 @@ pub mod Flight
 pub mod Pieces
 pub mod Accepting
 pub mod Joining
+pub mod Given
 pub mod Heeding
 pub mod Onway
 pub mod Bearing

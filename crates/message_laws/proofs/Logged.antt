@@ -18,13 +18,14 @@ use Rattle.run_model.specs.Steps.{accept_of, accepts_of, answered, given}
 use Rattle.run_model.specs.Wants.{need_of, piece_for}
 use Rattle.run_model.specs.Worlds.{Standing, holding, logged, logged_all}
 use Rattle.run_model.proofs.Lists.{each_append}
+use Rattle.message_laws.proofs.Runs.{IsInOrder, piece_ordered}
 
 -- ---- what is named
 
--- as where it fits, but for the size of a piece
+-- as where it fits, but for the size of a piece, whose points are in order
 abbrev pub BodyNames : Setup → Body → Type 0
 BodyNames setup (body.Act inst) = InstFits setup.spec inst
-BodyNames setup (body.Out to r given) = (to < setup.replicas) × RightFits setup r
+BodyNames setup (body.Out to r given) = (to < setup.replicas) × RightFits setup r × IsInOrder given
 BodyNames setup (body.Accept from index) = (from < setup.replicas) × (index + 1 < 2 ^ 32)
 
 pub record ItemNames (setup : Setup) (item : LogItem) : Type 0 where
@@ -101,13 +102,13 @@ answered_gives setup logs me to (w ∷ wants) p =
     let bodies : List Body = given (piece_for (holding setup logs me p (need_of w)) w.ask) to w.right in
     answered_gives setup logs me to wants (logged_all me bodies p) ∙ sym (logged_append me bodies (gives_for setup logs me to wants (logged_all me bodies p)) p)
 
-given_names : (setup : Setup) (to : ℕ) (r : Right) (o : Option Piece) → to < setup.replicas → RightFits setup r → AllByRecursion (BodyNames setup) (given o to r)
-given_names setup to r None peer fits = tt
-given_names setup to r (Some pc) peer fits = ((peer, fits), tt)
+given_names : (setup : Setup) (to : ℕ) (r : Right) (o : Option Piece) → to < setup.replicas → RightFits setup r → ((pc : Piece) → o ≡ Some pc → IsInOrder pc) → AllByRecursion (BodyNames setup) (given o to r)
+given_names setup to r None peer fits ordered = tt
+given_names setup to r (Some pc) peer fits ordered = ((peer, fits, ordered pc refl), tt)
 
 pub gives_name : (setup : Setup) (logs : Logs) (me to : ℕ) (wants : List Want) (p : Standing) → to < setup.replicas → AllByRecursion (WantFits setup) wants → AllByRecursion (BodyNames setup) (gives_for setup logs me to wants p)
 gives_name setup logs me to [] p peer all = tt
 gives_name setup logs me to (w ∷ wants) p peer all =
     let o : Option Piece = piece_for (holding setup logs me p (need_of w)) w.ask in
     let q : Standing = logged_all me (given o to w.right) p in
-    each_append (BodyNames setup) (given o to w.right) (gives_for setup logs me to wants q) (given_names setup to w.right o peer all.0.of) (gives_name setup logs me to wants q peer all.1)
+    each_append (BodyNames setup) (given o to w.right) (gives_for setup logs me to wants q) (given_names setup to w.right o peer all.0.of (λ pc is. piece_ordered setup logs me p.log w.right w.ask pc is)) (gives_name setup logs me to wants q peer all.1)

@@ -1,5 +1,5 @@
 -- In a run a replica heeds whole what was sent to it.
-use Rattle.std.proofs.Common.{◌≡◌, ℕ, ◌+◌, List, [], ◌++◌, length, take, sym, ap, subst, ◌∙◌, arith}
+use Rattle.std.proofs.Common.{◌≡◌, ℕ, ◌+◌, List, ◌++◌, length, take, sym, ap, subst, ◌∙◌, arith}
 use Rattle.std.specs.Prelude.{slice_get, Some}
 use Rattle.std.specs.List.{AllByRecursion}
 use Rattle.std.proofs.lemmas.Option.{slice_get_within}
@@ -21,7 +21,8 @@ use Rattle.message_laws.specs.Heeded.{CanAccept}
 use Rattle.message_laws.specs.Laws.{MessagesAreHeeded, NeedsFit}
 use Rattle.message_laws.specs.Views.{view_in}
 use Rattle.message_laws.proofs.Answered.{IsSentWell}
-use Rattle.message_laws.proofs.Bearing.{IsHere, accepts_part}
+use Rattle.message_laws.proofs.Bearing.{accepts_part}
+use Rattle.message_laws.proofs.Given.{IsHere}
 use Rattle.message_laws.proofs.Heeding.{heeded_whole, heeds_itself}
 use Rattle.message_laws.proofs.Lists.{each_place}
 use Rattle.message_laws.proofs.Onway.{IsSender}
@@ -30,8 +31,8 @@ use Rattle.message_laws.proofs.Limits.{AreSmall}
 use Rattle.message_laws.proofs.Sent.{AreFit, all_fit, sent_well}
 
 -- a replica that stands in the world of a run
-is_here : (setup : Setup) (world : World) (me : ℕ) (l : Local) → setup.plan.parts ≡ [] → AreSmall setup (logs_of world) → AreHeld setup (logs_of world) → Keeps setup world → StandsIn world me l → IsHere setup (logs_of world) me l.standing l.known
-is_here setup world me l none small held keeps stands =
+is_here : (setup : Setup) (world : World) (me : ℕ) (l : Local) → AreSmall setup (logs_of world) → AreHeld setup (logs_of world) → Keeps setup world → StandsIn world me l → IsHere setup (logs_of world) me l.standing l.known
+is_here setup world me l small held keeps stands =
     let p : Standing = l.standing in
     let logs : Logs = logs_of world in
     let well = keeps.kept.each me p stands.is in
@@ -39,7 +40,6 @@ is_here setup world me l none small held keeps stands =
     record {
       small = small;
       held = held;
-      whole = none;
       stands = well.stands;
       seen = record { are = held.named; own = held.own; consistent = keeps.cuts.cuts me p stands.is; mine = well.stands.whole ∙ sym (ap length own) };
       own = own;
@@ -53,17 +53,17 @@ part_at : (log items : List LogItem) → (is : IsPart log items) → (k : ℕ) (
 part_at log items is k x there = ap (λ (l : List LogItem). slice_get l (length is.front + k)) is.is ∙ get_behind is.front (items ++ is.behind) k ∙ get_front items is.behind k x there
 
 -- a part of a log of such a world fits
-part_fits : (setup : Setup) (world : World) (from : ℕ) (q : Standing) (items : List LogItem) → setup.plan.parts ≡ [] → AreSmall setup (logs_of world) → AreHeld setup (logs_of world) → AreFit setup world → slice_get world from ≡ Some q → IsPart q.log items
+part_fits : (setup : Setup) (world : World) (from : ℕ) (q : Standing) (items : List LogItem) → AreSmall setup (logs_of world) → AreHeld setup (logs_of world) → AreFit setup world → slice_get world from ≡ Some q → IsPart q.log items
     → AllByRecursion (ItemFits setup) items
-part_fits setup world from q items none small held fit at is = each_place (ItemFits setup) items (λ k x there.
+part_fits setup world from q items small held fit at is = each_place (ItemFits setup) items (λ k x there.
     let place : ℕ = length is.front + k in
     let here : slice_get q.log place ≡ Some x = part_at q.log items is k x there in
     let among : item_at (logs_of world) from place ≡ Some x = ap (λ (l : List LogItem). slice_get l place) (logs_there world from q at) ∙ here in
-    item_fits setup (logs_of world) from place x small held none among (each_at _ q.log place x (fit from q at).log here))
+    item_fits setup (logs_of world) from place x small held among (each_at _ q.log place x (fit from q at).log here))
 
 -- a message is heeded whole, where what is needed fits
 pub messages_heeded : NeedsFit → MessagesAreHeeded
-messages_heeded need setup entries world me l from number sent message settled none few asked runs stands short hears is =
+messages_heeded need setup entries world me l from number sent message settled few asked runs stands short hears is =
     let logs : Logs = logs_of world in
     let p : Standing = l.standing in
     let keeps = run_keeps setup entries world runs in
@@ -77,14 +77,14 @@ messages_heeded need setup entries world me l from number sent message settled n
     let what : IsSentTo from q.log sent.to (Some message) = subst (λ m. IsSentTo from q.log sent.to m) is f.2 in
     let log : log_at logs from ≡ q.log = logs_there world from q f.1 in
     let part : IsPart (log_at logs from) message.items = subst (λ (items : List LogItem). IsPart items message.items) (sym log) what.1 in
-    let here = is_here setup world me l none small held keeps stands in
+    let here = is_here setup world me l small held keeps stands in
     let sender : IsSender logs me from p.cut = record {
       other = λ same. what.0 (f.3 ∙ same);
       place = omega (arith, slice_get_within world from q f.1, kept.whole, (kept.each me p stands.is).wide);
       fits = (kept.each me p stands.is).within from;
       row = subst (λ (items : List LogItem). AreInRow from 0 items) (sym log) (kept.each from q f.1).stands.own;
     } in
-    let items = part_fits setup world from q message.items none small held fit.1 f.1 what.1 in
+    let items = part_fits setup world from q message.items small held fit.1 f.1 what.1 in
     let fits : MessageFits setup me message = record {
       sender = well.sender;
       other = well.other;

@@ -1,5 +1,5 @@
--- Rights that there are, where no plan parts, are conserved.
-use Rattle.std.proofs.Common.{◌≡◌, ℕ, ◌+◌, true, List, [], ◌∷◌, map, refl, sym, subst, eq-eqb}
+-- Each right that there is is conserved, or of a partition.
+use Rattle.std.proofs.Common.{◌≡◌, ◌⊎◌, inl, inr, ℕ, ◌+◌, Bool, true, List, [], ◌∷◌, map, filter, refl, eq-eqb}
 use Rattle.std.specs.Prelude.{Contains, is_some}
 use Rattle.std.specs.List.{AllByRecursion}
 use Rattle.std.proofs.lemmas.Bool.{and_from}
@@ -21,39 +21,45 @@ use Rattle.run_model.specs.Rights.{same_right}
 use Rattle.run_model.proofs.Lists.{each_append, each_at, each_filter}
 use Rattle.message_laws.proofs.Listed.{each_flat_map, each_map, in_contained}
 use Rattle.message_laws.proofs.Lists.{each_among}
-use Rattle.message_laws.proofs.Sections.{mask_rights, part_rights}
+use Rattle.message_laws.proofs.Sections.{lock_rights, mask_rights, part_rights}
 
-keys_conserved : (spec : Spec) (n : ℕ) (kinds : List LockKind) → AllByRecursion (IsConserved spec) (key_rights (λ n key. right.Lock n key) spec n kinds)
-keys_conserved spec n [] = tt
-keys_conserved spec n (kind ∷ kinds) = each_append (IsConserved spec) _ _ (each_map (IsConserved spec) (right.Lock n) (keys_of spec kind) (λ key there. refl)) (keys_conserved spec (n + 1) kinds)
+-- of a partition
+abbrev pub IsOfPart : Right → Type 0
+IsOfPart r = (part : ℕ) × (key : List ℕ) × (r ≡ right.Part part key)
 
-cells_conserved : (spec : Spec) (of : Cell → Right) (cs : List Cell) → ((cell : Cell) → Contains (cells spec) cell → IsConserved spec (of cell)) → AllByRecursion (Contains (cells spec)) cs → AllByRecursion (IsConserved spec) (map of cs)
-cells_conserved spec of [] so all = tt
-cells_conserved spec of (c ∷ cs) so all = (so c all.0, cells_conserved spec of cs so all.1)
+-- conserved, or of a partition
+abbrev IsEither : Spec → Right → Type 0
+IsEither spec r = IsConserved spec r ⊎ IsOfPart r
 
-first_of_both : (spec : Spec) (p : Cell → Type 0) (cs : List Cell) → AllByRecursion (λ c. Contains (cells spec) c × p c) cs → AllByRecursion (Contains (cells spec)) cs
-first_of_both spec p [] all = tt
-first_of_both spec p (c ∷ cs) all = (all.0.0, first_of_both spec p cs all.1)
+-- of each lock or partition at each key
+keys_each : (P : Right → Type 0) (of : ℕ → List ℕ → Right) (spec : Spec) (n : ℕ) (kinds : List LockKind) → ((m : ℕ) (key : List ℕ) → P (of m key)) → AllByRecursion P (key_rights of spec n kinds)
+keys_each P of spec n [] so = tt
+keys_each P of spec n (kind ∷ kinds) so = each_append P _ _ (each_map P (of n) (keys_of spec kind) (λ key there. so n key)) (keys_each P of spec (n + 1) kinds so)
 
-entries_conserved : (spec : Spec) (i : ℕ) → AllByRecursion (IsConserved spec) (entry_rights spec i)
-entries_conserved spec i =
+-- of the cells that pass a test
+cells_each : (spec : Spec) (P : Right → Type 0) (of : Cell → Right) (test : Cell → Bool) → ((cell : Cell) → Contains (cells spec) cell → P (of cell)) → AllByRecursion P (map of (filter test (cells spec)))
+cells_each spec P of test so = mapped (filter test (cells spec)) (each_filter (Contains (cells spec)) test (cells spec) (each_among (cells spec)))
+  where
+    mapped : (cs : List Cell) → AllByRecursion (λ c. Contains (cells spec) c × (test c ≡ true)) cs → AllByRecursion P (map of cs)
+    mapped [] all = tt
+    mapped (c ∷ cs) all = (so c all.0.0, mapped cs all.1)
+
+-- of the literals of a marked clause
+entries_each : (spec : Spec) (i : ℕ) → AllByRecursion (IsEither spec) (entry_rights spec i)
+entries_each spec i =
     let places : List ℕ = places_from (λ l. is_atom l.literal) 0 (literals (clause_in spec i)) in
-    each_flat_map (IsConserved spec) (λ (xs : List ℕ). map (λ n. right.Entry i xs n) places) (instances_of spec i) (λ xs there. each_map (IsConserved spec) (λ (n : ℕ). right.Entry i xs n) places (λ n at. refl))
+    each_flat_map (IsEither spec) (λ (xs : List ℕ). map (λ n. right.Entry i xs n) places) (instances_of spec i) (λ xs there. each_map (IsEither spec) (λ (n : ℕ). right.Entry i xs n) places (λ n at. inl refl))
 
--- each right that fits is conserved: a partition isn't
-pub right_conserved : (setup : Setup) (r : Right) → setup.plan.parts ≡ [] → RightFits setup r → IsConserved setup.spec r
-right_conserved setup r none fits =
+-- each right that fits is conserved, or of a partition
+pub right_kind : (setup : Setup) (r : Right) → RightFits setup r → IsConserved setup.spec r ⊎ IsOfPart r
+right_kind setup r fits =
     let spec = setup.spec in
-    let known = each_among (cells spec) in
-    let P : Right → Type 0 = IsConserved spec in
-    let lows : AllByRecursion P (low_rights spec) =
-    cells_conserved spec (λ c. right.Low c) _ (λ c h. h) (first_of_both spec _ _ (each_filter (Contains (cells spec)) (λ (c : Cell). is_some (lower_bound spec c)) (cells spec) known)) in
-    let highs : AllByRecursion P (high_rights spec) =
-    cells_conserved spec (λ c. right.High c) _ (λ c h. h) (first_of_both spec _ _ (each_filter (Contains (cells spec)) (λ (c : Cell). is_some (upper_bound spec c)) (cells spec) known)) in
-    let locks = keys_conserved spec 0 setup.plan.locks in
-    let entries : AllByRecursion P (mask_rights setup) = each_flat_map P (entry_rights spec) setup.plan.masks (λ i there. entries_conserved spec i) in
-    let parts : AllByRecursion P (part_rights setup) =
-    subst (λ (kinds : List LockKind). AllByRecursion P (key_rights (λ n key. right.Part n key) spec 0 kinds)) (sym none) tt in
+    let P : Right → Type 0 = IsEither spec in
+    let lows : AllByRecursion P (low_rights spec) = cells_each spec P (λ c. right.Low c) (λ c. is_some (lower_bound spec c)) (λ c there. inl there) in
+    let highs : AllByRecursion P (high_rights spec) = cells_each spec P (λ c. right.High c) (λ c. is_some (upper_bound spec c)) (λ c there. inl there) in
+    let locks : AllByRecursion P (lock_rights setup) = keys_each P (λ n key. right.Lock n key) spec 0 setup.plan.locks (λ n key. inl refl) in
+    let entries : AllByRecursion P (mask_rights setup) = each_flat_map P (entry_rights spec) setup.plan.masks (λ i there. entries_each spec i) in
+    let parts : AllByRecursion P (part_rights setup) = keys_each P (λ n key. right.Part n key) spec 0 setup.plan.parts (λ n key. inr (n, key, refl)) in
     let all : AllByRecursion P (rights_of setup) = each_append P _ _ lows (each_append P _ _ highs (each_append P _ _ locks (each_append P _ _ entries parts))) in
     let there = in_contained (rights_of setup) r fits in
     each_at P (rights_of setup) there.0 r all there.1

@@ -77,7 +77,6 @@ pub record IsFirst (setup : Setup) (me : ℕ) (r : Replica) : Type 0 where
   pub within : me < setup.replicas
   pub few : setup.replicas ≤ 16
   pub setup_fits : SetupFits setup
-  pub partless : setup.plan.parts ≡ []
   pub store : IsStore setup.replicas r.store
   pub empty : known_to r ≡ replicate setup.replicas []
   pub table : (logs : Logs) (among : Right → Bool) → IsTable setup logs me [] among r.table
@@ -101,7 +100,6 @@ first_replica setup me r h =
     record {
       me_is = h.me_is;
       setup_fits = h.setup_fits;
-      partless = h.partless;
       store = h.store;
       view = subst (λ i. let v : View = record { me = i; known = known_to r; cut = cut_in r.store } in IsView setup v) (sym h.me_is) view;
       all = subst (λ i. HasAll setup (known_to r) i (own_log r) r.table) (sym h.me_is) (subst (λ (l : List LogItem). HasAll setup (known_to r) me l r.table) (sym mine) all);

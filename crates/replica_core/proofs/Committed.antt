@@ -150,7 +150,7 @@ plans_of setup message r taken front accepts outs h =
       outs_are = outs_are;
       accept = λ needs. subst (AreNext setup logs me needs start) (sym parts.accepts_are) (accept needs).0;
       goes = goes;
-      give = λ needs. subst (AreNext setup logs me needs mid) (sym outs_are) (next_like setup logs me needs before mid (items_for me gives before) refl refl (gives_next setup logs me message.from needs message.wants before h.own.partless h.heeded.fits.sender h.heeded.fits.wants there));
+      give = λ needs. subst (AreNext setup logs me needs mid) (sym outs_are) (next_like setup logs me needs before mid (items_for me gives before) refl refl (gives_next setup logs me message.from needs message.wants before h.heeded.fits.sender h.heeded.fits.wants there));
       few_accepts = omega (arith, ap length parts.accepts_are, items_long me bodies start, short, part.few);
       few_outs = omega (arith, ap length outs_are, items_long me gives before, given_short, h.heeded.fits.few_wants);
     }

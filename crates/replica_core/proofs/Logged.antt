@@ -104,7 +104,6 @@ logs_one setup b old s t h =
       own = record {
         me_is = refl;
         setup_fits = h.own.setup_fits;
-        partless = h.own.partless;
         store = store;
         view = gives_view setup me known s (own ++ item ∷ []) (record {
           within = h.own.view.within;
@@ -164,7 +163,6 @@ learned_own learn setup old new from items own h learned =
     subst (IsReplica setup me) (sym learned.kept) (record {
       me_is = refl;
       setup_fits = own.setup_fits;
-      partless = own.partless;
       store = store;
       view = gives_view setup me known s (own_log old) (record {
         within = own.view.within;

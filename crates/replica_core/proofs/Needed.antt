@@ -1,13 +1,11 @@
 -- What a request needs, and what is wanted once it is short.
-use Rattle.std.proofs.Common.{◌≡◌, ◌∙◌, ℕ, ◌≤◌, false, List, [], ◌∷◌, length, refl, sym, ap, subst, arith}
+use Rattle.std.proofs.Common.{◌≡◌, ◌∙◌, ℕ, ◌≤◌, List, [], ◌∷◌, length, refl, sym, ap, subst, arith}
 use Rattle.std.specs.Prelude.{Some, None, slice_set}
 use Rattle.std.specs.List.{AllByRecursion}
 use Rattle.std.proofs.lemmas.List.{length-append}
 use Rattle.spec_model.specs.declared.plan.Setup.{Setup}
 use Rattle.spec_model.specs.declared.clause.Broken.{Broken}
 use Rattle.spec_model.specs.declared.instance.Inst.{Inst}
-use Rattle.spec_model.specs.declared.right.Right.{Right}
-use Rattle.spec_model.specs.declared.right.Right.TheVariants as right
 use Rattle.spec_model.specs.declared.right.Need.{Need}
 use Rattle.spec_model.specs.declared.right.Want.{Want}
 use Rattle.spec_model.specs.declared.right.Held.{Held}
@@ -21,14 +19,11 @@ use Rattle.run_model.specs.Levels.{first_lacking}
 use Rattle.run_model.specs.Worlds.{Sending, Standing}
 use Rattle.run_model.specs.Steps.{Requested, Requests}
 use Rattle.run_model.specs.Wants.{noted, want_of}
-use Rattle.run_model.specs.Fitting.{NeedFits, RightFits, WantFits}
-use Rattle.run_model.proofs.Lists.{each_weaker}
+use Rattle.run_model.specs.Fitting.{NeedFits, WantFits}
 use Rattle.causal_store.specs.Stores.{IsStore}
 use Rattle.rights_table.specs.Lacks.{Tells, TablesTell, lacking_of}
-use Rattle.rights_table.specs.Parts.{SpeaksOfNone, is_part}
 use Rattle.rights_table.specs.Tables.{holding_in}
 use Rattle.message_laws.specs.Views.{item_of}
-use Rattle.message_laws.proofs.Partless.{partless_is_whole}
 use Rattle.message_laws.proofs.Wanted.{lacking_fits, noted_few, noted_fit, want_fits}
 use Rattle.replica_core.specs.Replicas.{HasAnswered, HasLogged, IsReplica, holds_of, known_to, own_log, standing_of, view_of}
 use Rattle.replica_core.specs.Decisions.{broken_here, truths_here}
@@ -40,17 +35,6 @@ pub store_whole : (setup : Setup) (r : Replica) → IsReplica setup r.me r → I
 store_whole setup r own = subst (λ n. IsStore n r.store) (sym own.store.whole) own.store
 
 -- ---- what its table tells
-
--- no right that there is is of a partition
-pub right_whole : (setup : Setup) (r : Right) → setup.plan.parts ≡ [] → RightFits setup r → is_part r ≡ false
-right_whole setup (right.Low cell) none fits = refl
-right_whole setup (right.High cell) none fits = refl
-right_whole setup (right.Lock lock key) none fits = refl
-right_whole setup (right.Entry clause args literal) none fits = refl
-right_whole setup (right.Part part key) none fits = absurd (partless_is_whole setup part key none fits)
-
-pub needs_whole : (setup : Setup) (all : List Need) → setup.plan.parts ≡ [] → AllByRecursion (NeedFits setup) all → AllByRecursion SpeaksOfNone all
-needs_whole setup all none fit = each_weaker (NeedFits setup) SpeaksOfNone (λ need h. right_whole setup need.right none h.of) all fit
 
 -- what the table tells is what is held
 pub tells : TablesTell → (setup : Setup) (r : Replica) → IsReplica setup r.me r → Tells setup (known_to r) r.me (own_log r) r.table
@@ -71,7 +55,6 @@ pub heard_replica : (setup : Setup) (me : ℕ) (old new : Replica) → IsReplica
 heard_replica setup me old new own h = subst (IsReplica setup me) (sym h.is) (record {
   me_is = own.me_is;
   setup_fits = own.setup_fits;
-  partless = own.partless;
   store = own.store;
   view = own.view;
   all = own.all;
@@ -130,19 +113,18 @@ answered_done setup inst old new index at whole is h = record {
 }
 
 -- what the table lacks first of what is needed is what is lacking
-pub lacks : TablesTell → (setup : Setup) (r : Replica) (all these : List Need) → IsReplica setup r.me r → these ≡ all → AllByRecursion (NeedFits setup) all → first_lacking setup.replicas (holding_in setup r.table) these ≡ first_lacking setup.replicas (holds_of setup r) all
-lacks law setup r all these own is fit =
-    ap (first_lacking setup.replicas (holding_in setup r.table)) is ∙ (tells law setup r own).lacking all (needs_whole setup all own.partless fit)
+pub lacks : TablesTell → (setup : Setup) (r : Replica) (all these : List Need) → IsReplica setup r.me r → these ≡ all → first_lacking setup.replicas (holding_in setup r.table) these ≡ first_lacking setup.replicas (holds_of setup r) all
+lacks law setup r all these own is =
+    ap (first_lacking setup.replicas (holding_in setup r.table)) is ∙ (tells law setup r own).lacking all
 
 -- a need with what the table tells of it
-pub told_lacking : TablesTell → (setup : Setup) (r : Replica) (need : Need) → IsReplica setup r.me r → NeedFits setup need → lacking_of (holding_in setup r.table) need ≡ lacking_of (holds_of setup r) need
-told_lacking law setup r need own fits = ap (λ (h : Held). let l : Lacking = record { need = need; held = h } in l) ((tells law setup r own).held need (right_whole setup need.right own.partless fits.of))
+pub told_lacking : TablesTell → (setup : Setup) (r : Replica) (need : Need) → IsReplica setup r.me r → lacking_of (holding_in setup r.table) need ≡ lacking_of (holds_of setup r) need
+told_lacking law setup r need own = ap (λ (h : Held). let l : Lacking = record { need = need; held = h } in l) ((tells law setup r own).held need)
 
 -- it is lacking, and its want fits
 pub short_here : TablesTell → (setup : Setup) (r : Replica) (inst : Inst) (all : List Need) (need : Need) (l : Lacking) → IsReplica setup r.me r → all ≡ needs_here setup inst r → AllByRecursion (NeedFits setup) all
     → first_lacking setup.replicas (holds_of setup r) all ≡ Some (lacking_of (holding_in setup r.table) need) → l ≡ lacking_of (holds_of setup r) need → (first_lacking setup.replicas (holds_of setup r) (needs_here setup inst r) ≡ Some l) × WantFits setup (want_of l.need)
 short_here law setup r inst all need l own all_is fit found is =
     let holds = holds_of setup r in
-    let fits : NeedFits setup need = lacking_fits (NeedFits setup) setup.replicas holds all (lacking_of (holding_in setup r.table) need) fit found in
-    let same : first_lacking setup.replicas holds all ≡ Some l = found ∙ ap (λ (m : Lacking). Some m) (told_lacking law setup r need own fits ∙ sym is) in
+    let same : first_lacking setup.replicas holds all ≡ Some l = found ∙ ap (λ (m : Lacking). Some m) (told_lacking law setup r need own ∙ sym is) in
     (ap (first_lacking setup.replicas holds) (sym all_is) ∙ same, want_fits setup l.need (lacking_fits (NeedFits setup) setup.replicas holds all l fit same))

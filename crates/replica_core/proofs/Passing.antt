@@ -24,10 +24,11 @@ use Rattle.spec_model.specs.declared.log.Body.{Body}
 use Rattle.spec_model.specs.declared.log.Body.TheVariants as body
 use Rattle.spec_model.specs.declared.log.LogItem.{LogItem}
 use Rattle.run_model.specs.Allowed.{IsHeldPiece, span_given}
-use Rattle.run_model.specs.Fitting.{AskFits, PieceFits, RightFits, WantFits}
+use Rattle.run_model.specs.Fitting.{AskFits, PieceFits, WantFits}
 use Rattle.run_model.specs.Holding.{held_right, mode_of, span_in}
 use Rattle.run_model.specs.Logs.{Logs, item_at, log_at}
 use Rattle.run_model.specs.Passing.{can_accept}
+use Rattle.run_model.specs.Points.{holds_point, missing_of}
 use Rattle.run_model.specs.Rights.{body_gains, body_loses, held_count, is_escrow, is_shared, out_gives, piece_count, same_right}
 use Rattle.run_model.specs.Steps.{given}
 use Rattle.run_model.specs.Wants.{amount_of, need_of, piece_for}
@@ -38,7 +39,7 @@ use Rattle.run_model.proofs.Lists.{each_append}
 use Rattle.run_model.proofs.Modes.{shared_conserved}
 use Rattle.run_model.proofs.Pieces.{piece_held}
 use Rattle.message_laws.proofs.Logged.{gives_for}
-use Rattle.message_laws.proofs.Partless.{partless_is_whole}
+use Rattle.message_laws.proofs.Runs.{points_given}
 use Rattle.replica_core.specs.Next.{AreNext, IsNext}
 use Rattle.replica_core.proofs.Grown.{AllRest, GrowsTo, RestsOn, all_alike, grows_with}
 use Rattle.replica_core.proofs.Items.{items_for}
@@ -136,26 +137,30 @@ shares_fit setup r have m (piece.Shares n given) shared few h = (shared, omega (
 shares_fit setup r have m (piece.Points span) shared few h = absurd h
 
 -- what is given to one who asks fits
-given_fits : (setup : Setup) (logs : Logs) (me : ℕ) (own : List LogItem) (r : Right) (ask : WantAsk) (pc : Piece) → setup.plan.parts ≡ [] → RightFits setup r → AskFits setup r ask → HoldsFew setup logs me own
+given_fits : (setup : Setup) (logs : Logs) (me : ℕ) (own : List LogItem) (r : Right) (ask : WantAsk) (pc : Piece) → AskFits setup r ask → HoldsFew setup logs me own
     → piece_for (held_right setup logs me own r (span_in (amount_of ask))) ask ≡ Some pc → PieceFits setup r pc
-given_fits setup logs me own (right.Low cell) (asked.Count n) pc none fits asks few is = count_fits setup (right.Low cell) (held_count setup logs me own (right.Low cell)) n pc refl asks.1 is
-given_fits setup logs me own (right.Low cell) (asked.Level l) pc none fits asks few is = absurd cc
-given_fits setup logs me own (right.Low cell) (asked.Points span) pc none fits asks few is = absurd cc
-given_fits setup logs me own (right.High cell) (asked.Count n) pc none fits asks few is = count_fits setup (right.High cell) (held_count setup logs me own (right.High cell)) n pc refl asks.1 is
-given_fits setup logs me own (right.High cell) (asked.Level l) pc none fits asks few is = absurd cc
-given_fits setup logs me own (right.High cell) (asked.Points span) pc none fits asks few is = absurd cc
-given_fits setup logs me own (right.Lock lock key) ask pc none fits asks few is =
+given_fits setup logs me own (right.Low cell) (asked.Count n) pc asks few is = count_fits setup (right.Low cell) (held_count setup logs me own (right.Low cell)) n pc refl asks.1 is
+given_fits setup logs me own (right.Low cell) (asked.Level l) pc asks few is = absurd cc
+given_fits setup logs me own (right.Low cell) (asked.Points span) pc asks few is = absurd cc
+given_fits setup logs me own (right.High cell) (asked.Count n) pc asks few is = count_fits setup (right.High cell) (held_count setup logs me own (right.High cell)) n pc refl asks.1 is
+given_fits setup logs me own (right.High cell) (asked.Level l) pc asks few is = absurd cc
+given_fits setup logs me own (right.High cell) (asked.Points span) pc asks few is = absurd cc
+given_fits setup logs me own (right.Lock lock key) ask pc asks few is =
     shares_fit setup (right.Lock lock key) (held_count setup logs me own (right.Lock lock key)) (mode_of setup logs me own (right.Lock lock key)) pc refl (few (right.Lock lock key) refl) (piece_held setup logs me own (right.Lock lock key) ask pc is)
-given_fits setup logs me own (right.Entry clause args literal) ask pc none fits asks few is =
+given_fits setup logs me own (right.Entry clause args literal) ask pc asks few is =
     shares_fit setup (right.Entry clause args literal) (held_count setup logs me own (right.Entry clause args literal)) (mode_of setup logs me own (right.Entry clause args literal)) pc refl (few (right.Entry clause args literal) refl) (piece_held setup logs me own (right.Entry clause args literal) ask pc is)
-given_fits setup logs me own (right.Part part key) ask pc none fits asks few is = absurd (partless_is_whole setup part key none fits)
+given_fits setup logs me own (right.Part part key) (asked.Count n) pc asks few is = absurd cc
+given_fits setup logs me own (right.Part part key) (asked.Level l) pc asks few is = absurd cc
+given_fits setup logs me own (right.Part part key) (asked.Points span) pc asks few is =
+    let run = points_given (holds_point setup logs me own (right.Part part key)) (missing_of (holds_point setup logs me own (right.Part part key)) span) span pc is in
+    subst (PieceFits setup (right.Part part key)) (sym run.1) (run.2, omega (arith, run.3, asks.1))
 
 -- an Out is next, in front of others that are
-out_next : (setup : Setup) (logs : Logs) (me to : ℕ) (needs : List Need) (p : Standing) (w : Want) (pc : Piece) → setup.plan.parts ≡ [] → to < setup.replicas → WantFits setup w → Goes setup logs me p
+out_next : (setup : Setup) (logs : Logs) (me to : ℕ) (needs : List Need) (p : Standing) (w : Want) (pc : Piece) → to < setup.replicas → WantFits setup w → Goes setup logs me p
     → piece_for (holding setup logs me p (need_of w)) w.ask ≡ Some pc → IsNext setup (slice_set logs me p.log) me needs p (record { origin = me; index = length p.log; deps = p.cut; body = body.Out to w.right pc })
-out_next setup logs me to needs p w pc none peer fits h is = record {
+out_next setup logs me to needs p w pc peer fits h is = record {
   is = refl;
-  fits = (peer, fits.of, given_fits setup logs me p.log w.right w.ask pc none fits.of fits.much h.few is);
+  fits = (peer, fits.of, given_fits setup logs me p.log w.right w.ask pc fits.much h.few is);
   allowed = subst (λ (have : Held). IsHeldPiece have pc) (goes_held setup logs me p w.right (span_given pc) h) (piece_held setup logs me p.log w.right w.ask pc is);
   along = tt;
 }
@@ -167,20 +172,20 @@ out_goes setup logs me to p r pc h =
     goes_on setup logs me p (body.Out to r pc) h tt (λ q shared. let was = h.few q shared in omega (arith, count_more setup logs me p.log item q, was))
 
 -- what is given to one want is next, in front of others that are
-given_next : (setup : Setup) (logs : Logs) (me to : ℕ) (needs : List Need) (p : Standing) (w : Want) (o : Option Piece) (bodies : List Body) → setup.plan.parts ≡ [] → to < setup.replicas → WantFits setup w → Goes setup logs me p → piece_for (holding setup logs me p (need_of w)) w.ask ≡ o
+given_next : (setup : Setup) (logs : Logs) (me to : ℕ) (needs : List Need) (p : Standing) (w : Want) (o : Option Piece) (bodies : List Body) → to < setup.replicas → WantFits setup w → Goes setup logs me p → piece_for (holding setup logs me p (need_of w)) w.ask ≡ o
     → AreNext setup logs me needs (logged_all me (given o to w.right) p) (items_for me bodies (logged_all me (given o to w.right) p)) → AreNext setup logs me needs p (items_for me (given o to w.right ++ bodies) p)
-given_next setup logs me to needs p w None bodies none peer fits h is rest = rest
-given_next setup logs me to needs p w (Some pc) bodies none peer fits h is rest = (out_next setup logs me to needs p w pc none peer fits h is, rest)
+given_next setup logs me to needs p w None bodies peer fits h is rest = rest
+given_next setup logs me to needs p w (Some pc) bodies peer fits h is rest = (out_next setup logs me to needs p w pc peer fits h is, rest)
 
 given_goes : (setup : Setup) (logs : Logs) (me to : ℕ) (p : Standing) (r : Right) (o : Option Piece) → Goes setup logs me p → Goes setup logs me (logged_all me (given o to r) p)
 given_goes setup logs me to p r None h = h
 given_goes setup logs me to p r (Some pc) h = out_goes setup logs me to p r pc h
 
 -- what is given to each want in turn is next
-pub gives_next : (setup : Setup) (logs : Logs) (me to : ℕ) (needs : List Need) (wants : List Want) (p : Standing) → setup.plan.parts ≡ [] → to < setup.replicas → AllByRecursion (WantFits setup) wants → Goes setup logs me p
+pub gives_next : (setup : Setup) (logs : Logs) (me to : ℕ) (needs : List Need) (wants : List Want) (p : Standing) → to < setup.replicas → AllByRecursion (WantFits setup) wants → Goes setup logs me p
     → AreNext setup logs me needs p (items_for me (gives_for setup logs me to wants p) p)
-gives_next setup logs me to needs [] p none peer all h = tt
-gives_next setup logs me to needs (w ∷ wants) p none peer all h =
+gives_next setup logs me to needs [] p peer all h = tt
+gives_next setup logs me to needs (w ∷ wants) p peer all h =
     let o : Option Piece = piece_for (holding setup logs me p (need_of w)) w.ask in
     let q : Standing = logged_all me (given o to w.right) p in
-    given_next setup logs me to needs p w o (gives_for setup logs me to wants q) none peer all.0 h refl (gives_next setup logs me to needs wants q none peer all.1 (given_goes setup logs me to p w.right o h))
+    given_next setup logs me to needs p w o (gives_for setup logs me to wants q) peer all.0 h refl (gives_next setup logs me to needs wants q peer all.1 (given_goes setup logs me to p w.right o h))

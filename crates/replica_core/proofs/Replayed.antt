@@ -65,7 +65,6 @@ same_ready setup old s t n own logs cut all =
       own = record {
         me_is = refl;
         setup_fits = own.setup_fits;
-        partless = own.partless;
         store = record {
           whole = ap length logs ∙ own.store.whole;
           few = own.store.few;

@@ -47,11 +47,10 @@ standing_of stamp sendings r = record {
 abbrev pub holds_of : Setup → Replica → Need → Held
 holds_of setup r need = held_of setup (known_to r) r.me (own_log r) need
 
--- replica me of a setup without partitions: the logs that it knows, what it holds, wants and was told
+-- replica me: the logs that it knows, what it holds, wants and was told
 pub record IsReplica (setup : Setup) (me : ℕ) (r : Replica) : Type 0 where
   pub me_is : r.me ≡ me
   pub setup_fits : SetupFits setup
-  pub partless : setup.plan.parts ≡ []
   pub store : IsStore setup.replicas r.store
   pub view : IsView setup (view_of r)
   pub all : HasAll setup (known_to r) r.me (own_log r) r.table

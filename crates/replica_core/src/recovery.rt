@@ -1,6 +1,6 @@
 //! A replica that is made again from what it committed.
 
-ghost use Rattle.std.specs.Prelude.{◌≡◌, ◌≢◌, ◌<◌, ◌≤◌, [], All, IfOk, OnOk, length, slice_get, take, Some};
+ghost use Rattle.std.specs.Prelude.{◌≡◌, ◌≢◌, ◌<◌, ◌≤◌, All, IfOk, OnOk, length, slice_get, take, Some};
 ghost use Rattle.spec_model.specs.declared.log.LogItem.{LogItem as ItemOf};
 ghost use Rattle.run_model.specs.Fitting.{SetupFits};
 ghost use Rattle.causal_store.specs.Stores.{IsShort};
@@ -66,7 +66,6 @@ impl Replica {
         batches: &[Batch],
     ) -> Result<Replica, NoMemory>
         requires setup { SetupFits setup.now }
-        requires partless { setup.now.plan.parts ≡ [] }
         requires place { me < setup.now.replicas }
         requires few { setup.now.replicas ≤ 16 }
         requires few_batches { length batches.now ≤ 100000 }

@@ -65,7 +65,6 @@ impl Replica {
     /// A replica before its first step.
     pub fn begin(alloc: Global, setup: &Setup, me: u32) -> Result<Replica, NoMemory>
         requires setup { SetupFits setup.now }
-        requires partless { setup.now.plan.parts ≡ [] }
         requires place { me < setup.now.replicas }
         requires few { setup.now.replicas ≤ 16 }
         ensures own { IfOk result (IsReplica setup.now me) }

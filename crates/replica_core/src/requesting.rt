@@ -7,7 +7,7 @@ ghost use Rattle.spec_model.specs.declared.log.Body.TheVariants as body;
 ghost use Rattle.spec_model.specs.Fits.{InstFits};
 ghost use Rattle.run_model.specs.declared.step.Outcome.TheVariants as outcomes;
 ghost use Rattle.run_model.specs.Steps.{message_of};
-ghost use Rattle.run_model.specs.Fitting.{MessageFits, NeedFits, WantFits};
+ghost use Rattle.run_model.specs.Fitting.{MessageFits};
 ghost use Rattle.run_model.specs.Wants.{noted, want_less as less, want_of as wanted};
 ghost use Rattle.causal_store.specs.Agreeing.{with_all};
 ghost use Rattle.rights_table.specs.Lacks.{lacking_of};
@@ -59,7 +59,6 @@ impl Replica {
     /// A need in a value of its own, and what is held of it.
     fn lacking(&self, alloc: Global, setup: &Setup, need: &Need) -> Result<Lacking, NoMemory>
         requires own { IsReplica setup.now self.now.me self.now }
-        requires fits { NeedFits setup.now need.now }
         ensures { IfOk result (λ l. l ≡ lacking_of (holds_of setup.now self.now) need.now) }
     {
         tables_tell();
@@ -143,7 +142,6 @@ impl Replica {
     /// What is still lacking of a want.
     fn still_lacking(&self, setup: &Setup, want: &Want) -> Want
         requires own { IsReplica setup.now self.now.me self.now }
-        requires fits { WantFits setup.now want.now }
         ensures { result ≡ less (holds_of setup.now self.now) want.now }
     {
         tables_tell();

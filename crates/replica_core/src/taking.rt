@@ -4,7 +4,6 @@ ghost use Rattle.std.specs.Prelude.{◌≡◌, ◌<◌, ◌++◌, ◌∷◌, [],
 ghost use Rattle.spec_model.specs.declared.log.LogItem.{LogItem as ItemOf};
 ghost use Rattle.run_model.specs.declared.message.Message.{Message as MessageOf};
 ghost use Rattle.run_model.specs.declared.step.Outcome.TheVariants as outcomes;
-ghost use Rattle.run_model.specs.Fitting.{WantFits};
 ghost use Rattle.run_model.specs.Levels.{is_met};
 ghost use Rattle.run_model.specs.Wants.{need_of as needed, still_wanted};
 ghost use Rattle.run_model.specs.Worlds.{joined as joined_with};
@@ -100,7 +99,6 @@ impl Replica {
     /// Whether what is held meets a want.
     fn is_met(&self, setup: &Setup, want: &Want) -> bool
         requires own { IsReplica setup.now self.now.me self.now }
-        requires fits { WantFits setup.now want.now }
         ensures { result ≡ is_met setup.now.replicas (holds_of setup.now self.now) (needed want.now) }
     {
         tables_tell();

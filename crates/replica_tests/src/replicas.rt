@@ -18,7 +18,6 @@ use std::alloc::Global;
 /// Replica 0 before its first step.
 fn begin(alloc: Global, setup: &Setup) -> Result<Replica, NoMemory>
     requires setup { SetupFits setup.now }
-    requires partless { setup.now.plan.parts ≡ [] }
     requires two { setup.now.replicas ≡ 2 }
     ensures acted { IfOk result (HasActed setup.now []) }
     ensures up { IfOk result (IsUp setup.now) }
@@ -69,7 +68,6 @@ fn act(
 /// Replica 0 once it has opened item 0 and sold the one that it may sell, with its batches.
 fn has_sold(alloc: Global, setup: &Setup, batches: &mut Items<Batch>) -> Result<Replica, NoMemory>
     requires setup { SetupFits setup.now }
-    requires partless { setup.now.plan.parts ≡ [] }
     requires two { setup.now.replicas ≡ 2 }
     requires none { batches.old ≡ [] }
     ensures acted { IfOk result (HasActed setup.now batches.new) }
@@ -110,7 +108,6 @@ struct Pair {
 
 fn pair_of(alloc: Global, setup: &Setup) -> Result<Pair, NoMemory>
     requires setup { SetupFits setup.now }
-    requires partless { setup.now.plan.parts ≡ [] }
     requires two { setup.now.replicas ≡ 2 }
     ensures first { IfOk result (λ p. IsUp setup.now p.first) }
     ensures again { IfOk result (λ p. IsUp setup.now p.again) }
@@ -145,7 +142,6 @@ fn send(alloc: Global, setup: &Setup, replica: &Replica) -> Result<Message, NoMe
 /// What each of them sends once the first wants more to sell.
 pub(crate) fn messages(alloc: Global, setup: &Setup) -> Result<(Message, Message), NoMemory>
     requires setup { SetupFits setup.now }
-    requires partless { setup.now.plan.parts ≡ [] }
     requires two { setup.now.replicas ≡ 2 }
 {
     let sell = inst(2, 0);
@@ -162,7 +158,6 @@ pub(crate) fn messages(alloc: Global, setup: &Setup) -> Result<(Message, Message
 /// What the one that is made again decides: on opening the other item, and on selling once more.
 pub(crate) fn decisions(alloc: Global, setup: &Setup) -> Result<(Decision, Decision), NoMemory>
     requires setup { SetupFits setup.now }
-    requires partless { setup.now.plan.parts ≡ [] }
     requires two { setup.now.replicas ≡ 2 }
 {
     let unlock = inst(0, 1);

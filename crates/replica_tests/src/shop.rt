@@ -1,6 +1,6 @@
 //! A shop of two items. One of them may be open, and only then be listed.
 
-ghost use Rattle.std.specs.Prelude.{◌≡◌, [], IfOk, IfSome, IsTrue, false};
+ghost use Rattle.std.specs.Prelude.{◌≡◌, IfOk, IfSome, IsTrue, false};
 ghost use Rattle.std.specs.List.{AllByRecursion};
 ghost use Rattle.spec_model.specs.declared.clause.Clause.{Clause as ClauseOf};
 ghost use Rattle.spec_model.specs.Fits.{IsWellFormed};
@@ -54,7 +54,6 @@ fn none_is_marked(clauses: &[Clause]) -> bool
 fn bare(alloc: Global, spec: Spec) -> Option<Setup>
     requires well_formed { IsWellFormed spec }
     ensures fits { IfSome result SetupFits }
-    ensures partless { IfSome result (λ setup. setup.plan.parts ≡ []) }
     ensures two { IfSome result (λ setup. setup.replicas ≡ 2) }
 {
     if !none_is_marked(spec.clauses.as_slice()) {
@@ -75,7 +74,6 @@ fn bare(alloc: Global, spec: Spec) -> Option<Setup>
 /// The shop at two replicas.
 pub(crate) fn shop(alloc: Global) -> Result<Setup, ParseError>
     ensures fits { IfOk result SetupFits }
-    ensures partless { IfOk result (λ setup. setup.plan.parts ≡ []) }
     ensures two { IfOk result (λ setup. setup.replicas ≡ 2) }
 {
     let Ok(lines) = lines_of(alloc, SHOP) else {

@@ -124,7 +124,7 @@ heeded_at setup schedule at o from number m nodes links law settled few whole a 
     let mine : o.replica ≡ node.replica.me = sym one.own.me_is in
     let l : Local = local_of (sendings_at h.world o.replica) node in
     subst (λ i. IsHeededWhole setup (view_in i l) m) mine
-    (law setup h.entries h.world o.replica l from number (sending_of m) m settled one.own.partless (omega (arith, few)) (asks_fit setup schedule at nodes links whole h) h.runs one.stands (λ j. omega (arith, h.short j, a.few)) hears refl)
+    (law setup h.entries h.world o.replica l from number (sending_of m) m settled (omega (arith, few)) (asks_fit setup schedule at nodes links whole h) h.runs one.stands (λ j. omega (arith, h.short j, a.few)) hears refl)
 
 -- a message is taken
 pub take_running : (setup : Setup) (schedule : List Order) (at : ℕ) (o : Order) (from number : ℕ) (m : Message) (nodes new : List Node) (links : List (List Message)) → LocalStepIsOne → IsAt setup schedule at o → AreRunning setup (take at schedule) nodes links

@@ -97,7 +97,6 @@ impl Node {
     /// A replica before its first step.
     pub(crate) fn begin(alloc: Global, setup: &Setup, me: u32) -> Result<Node, NoMemory>
         requires setup { SetupFits setup.now }
-        requires partless { setup.now.plan.parts ≡ [] }
         requires place { me < setup.now.replicas }
         requires few { setup.now.replicas ≤ 16 }
         ensures { IfOk result (λ node. IsFirst setup.now me node) }

@@ -24,7 +24,6 @@ use std::alloc::Global;
 /// All replicas before their first step.
 fn begin(alloc: Global, setup: &Setup) -> Result<Vec<Node>, NoMemory>
     requires setup { SetupFits setup.now }
-    requires partless { setup.now.plan.parts ≡ [] }
     requires few { setup.now.replicas ≤ 8 }
     ensures { IfOk result (λ nodes. AreFirst setup.now setup.now.replicas nodes.items) }
 {
@@ -138,7 +137,6 @@ fn take_order(
 /// All lines of a schedule, one after the other.
 fn run(alloc: Global, setup: &Setup, schedule: &[Order]) -> Result<Vec<Node>, NoMemory>
     requires settled { IsSettled setup.now }
-    requires partless { setup.now.plan.parts ≡ [] }
     requires few { setup.now.replicas ≤ 8 }
     requires schedule { ScheduleFits setup.now.spec setup.now.replicas schedule.now }
     requires up { AllByRecursion (λ order. StaysUp order.ask) schedule.now }
@@ -174,7 +172,6 @@ fn histories(
 /// Runs the replicas on the schedule: what each did, and how it stands at the end.
 pub fn simulate(alloc: Global, setup: &Setup, schedule: &[Order]) -> Result<List<History>, NoMemory>
     requires settled { IsSettled setup.now }
-    requires partless { setup.now.plan.parts ≡ [] }
     requires few { setup.now.replicas ≤ 8 }
     requires schedule { ScheduleFits setup.now.spec setup.now.replicas schedule.now }
     requires up { AllByRecursion (λ order. StaysUp order.ask) schedule.now }

@@ -2,7 +2,6 @@ pub mod Coming
 pub mod Conflicting
 pub mod Enumerated
 pub mod Exact
-pub mod Lacking
 pub mod Lined
 pub mod Made
 pub mod Paired

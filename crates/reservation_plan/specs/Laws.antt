@@ -1,13 +1,12 @@
--- What the derived plan says of conflicting cases, and what a plan lacks.
-use Rattle.std.specs.Prelude.{◌≡◌, ◌≤◌, ◌<◌, ◌↔◌, ℕ, true, false, [], ◌++◌, length, Contains}
-use Rattle.std.specs.List.{AllByRecursion}
+-- What the derived plan says of conflicting cases.
+use Rattle.std.specs.Prelude.{◌≡◌, ◌≤◌, ◌<◌, ◌↔◌, ℕ, true, ◌++◌, length, Contains}
 use Rattle.ground_clauses.specs.Cases.{pair_cases, touched_cases}
 use Rattle.ground_clauses.specs.Counting.{case_count}
 use Rattle.ground_clauses.specs.Conflicting.{IsConflicting, IsTouchedCase}
 use Rattle.ground_clauses.specs.declared.case.Case.{Case}
 use Rattle.reservation_plan.specs.Conflicts.{is_conflicting}
 use Rattle.reservation_plan.specs.Derived.{derived_plan}
-use Rattle.spec_model.specs.Fits.{IsWellFormed, PlanFits}
+use Rattle.spec_model.specs.Fits.{IsWellFormed}
 use Rattle.spec_model.specs.declared.plan.LockKind.{LockKind}
 use Rattle.spec_model.specs.declared.plan.Plan.{Plan}
 use Rattle.spec_model.specs.declared.spec.Spec.{Spec}
@@ -36,7 +35,3 @@ ReservesConflicts = (spec : Spec) (a b : ℕ) → IsWellFormed spec → a ≤ b 
 -- The touched cases are no more than all that are counted.
 abbrev pub TouchedAreCounted : Type 0
 TouchedAreCounted = (spec : Spec) → IsWellFormed spec → length (touched_cases spec) ≤ case_count spec
-
--- Without an interval parameter a plan that fits has no partitions.
-abbrev pub PlansWithoutParts : Type 0
-PlansWithoutParts = (spec : Spec) (plan : Plan) → PlanFits spec plan → AllByRecursion (λ op. AllByRecursion (λ param. param.interval ≡ false) op.params) spec.ops → plan.parts ≡ []

@@ -1,7 +1,6 @@
-//! What the plan's definitions say of conflicting cases, and what a plan lacks: laws, which run
-//! nothing.
+//! What the plan's definitions say of conflicting cases: laws, which run nothing.
 
-ghost use Rattle.reservation_plan.specs.Laws.{PlansWithoutParts, ReservesConflicts, TellsConflicts, TouchedAreCounted};
+ghost use Rattle.reservation_plan.specs.Laws.{ReservesConflicts, TellsConflicts, TouchedAreCounted};
 
 /// To try all truths of a query's variables tells exactly the conflicting cases.
 pub fn tells_conflicts()
@@ -17,9 +16,4 @@ pub fn reserves_conflicts()
 /// The touched cases are no more than `case_count` says.
 pub fn touched_are_counted()
     ensures { TouchedAreCounted }
-{}
-
-/// Without an interval parameter a plan that fits has no partitions.
-pub fn plans_without_parts()
-    ensures { PlansWithoutParts }
 {}

@@ -10,5 +10,5 @@ mod planning;
 mod reserving;
 
 pub use analysed::{Analysed, DeriveError};
-pub use laws::{plans_without_parts, reserves_conflicts, tells_conflicts, touched_are_counted};
+pub use laws::{reserves_conflicts, tells_conflicts, touched_are_counted};
 pub use planning::derive;

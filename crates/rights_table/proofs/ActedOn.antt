@@ -22,23 +22,14 @@ use Rattle.multilevel_locks.specs.Shares.{mode_set, permits as shares_permitted}
 use Rattle.multilevel_locks.specs.Holdings.{acted}
 use Rattle.rights_table.specs.declared.holding.Holding.{Holding}
 use Rattle.rights_table.specs.declared.holding.Holding.TheVariants as holding
-use Rattle.rights_table.specs.Holdings.{count_of, mode_of, is_of, spent, permits as holding_permits}
+use Rattle.rights_table.specs.Holdings.{count_of, mode_of, point_of, is_of, spent, permits as holding_permits}
 use Rattle.rights_table.specs.declared.table.Table.{Table}
-use Rattle.rights_table.specs.Parts.{is_part}
 use Rattle.rights_table.specs.Tables.{holding_in, entered, count_in, mode_in, Becomes}
 use Rattle.rights_table.proofs.Same.{same_is}
 use Rattle.rights_table.proofs.Telling.{count_entered, mode_entered}
-use Rattle.rights_table.proofs.Stepped.{count_by, mode_becomes}
+use Rattle.rights_table.proofs.Stepped.{count_by, mode_becomes, points_stay}
 use Rattle.rights_table.proofs.Pieces.{becomes_kept}
 use Rattle.rights_table.specs.Acting.{shares_in, ActsBy}
-
--- a shared right is no partition
-pub shared_whole : (r : Right) → is_shared r ≡ true → is_part r ≡ false
-shared_whole (right.Low cell) h = refl
-shared_whole (right.High cell) h = refl
-shared_whole (right.Lock l key) h = refl
-shared_whole (right.Entry c args i) h = refl
-shared_whole (right.Part p key) h = absurd cc
 
 -- another literal's entry is shared
 pub literal_shared : (r : Right) (n : ℕ) → is_shared r ≡ true → is_shared (at_literal r n) ≡ true
@@ -81,6 +72,8 @@ pub shares_of_kind : (all : ℕ) (r : Right) (h : Holding) → is_shared r ≡ t
 shares_of_kind all (right.Low cell) h shared kind = absurd cc
 shares_of_kind all (right.High cell) h shared kind = absurd cc
 shares_of_kind all (right.Lock l key) (holding.Count e) shared kind = absurd cc
+shares_of_kind all (right.Lock l key) (holding.Points k) shared kind = absurd cc
+shares_of_kind all (right.Entry c args i) (holding.Points k) shared kind = absurd cc
 shares_of_kind all (right.Lock l key) (holding.Shares s) shared kind = (s, refl, eqb-true s.all all kind)
 shares_of_kind all (right.Entry c args i) (holding.Count e) shared kind = absurd cc
 shares_of_kind all (right.Entry c args i) (holding.Shares s) shared kind = (s, refl, eqb-true s.all all kind)
@@ -119,6 +112,7 @@ acts_one setup old new r l before becomes kind =
       me = becomes.me;
       replicas = becomes.replicas;
       counts = λ q. (let by = count_by setup r q before after old new 0 0 becomes (omega (arith, same_count)) in let none = nothing (same_right r q) in omega (arith, by, none));
+      points = λ q x. points_stay setup r q x before after old new becomes (ap (λ (h : Holding). point_of h x) becomes_shares ∙ sym (ap (λ (h : Holding). point_of h x) kind.1));
       modes = λ q. mode_becomes r q before after old new becomes ∙ elim (cases_Bool (same_right r q)) [
         | inl same ↦
             let one : r ≡ q = same_is r q same in

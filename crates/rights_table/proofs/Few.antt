@@ -17,7 +17,6 @@ use Rattle.run_model.specs.Allowed.{span_given}
 use Rattle.run_model.specs.Rights.{same_right, is_shared, even_share, first_total, piece_count, body_gains, body_loses, held_count, out_gives}
 use Rattle.run_model.specs.Holding.{mode_of as mode_held, held_right}
 use Rattle.run_model.specs.Passing.{can_accept, same_mode}
-use Rattle.rights_table.specs.Parts.{is_part}
 use Rattle.rights_table.specs.Whole.{AreFew}
 use Rattle.rights_table.proofs.Same.{same_is}
 
@@ -49,40 +48,42 @@ few_given setup logs me own x to r p out few = record {
         omega (arith, more, none)
 
 -- what can be accepted joins what is held
-joined_few : (setup : Setup) (logs : Logs) (me : ℕ) (own : List LogItem) (r : Right) (p : Piece) → is_part r ≡ false → can_accept setup.replicas (held_right setup logs me own r (span_given p)) p ≡ true
-    → (is_shared r ≡ true → held_count setup logs me own r + piece_count p ≤ setup.replicas) × (is_shared r ≡ false → held_count setup logs me own r + piece_count p ≤ 2 ^ 62)
-joined_few setup logs me own r p whole can = by r p whole can
+joined_few : (setup : Setup) (logs : Logs) (me : ℕ) (own : List LogItem) (r : Right) (p : Piece) → AreFew setup logs me own → can_accept setup.replicas (held_right setup logs me own r (span_given p)) p ≡ true
+    → (is_shared r ≡ true → held_count setup logs me own r + piece_count p ≤ setup.replicas) × (is_shared r ≡ false → held_count setup logs me own r + piece_count p ≤ 2 ^ 62 + length own * 2 ^ 34)
+joined_few setup logs me own r p few can = by r p can
   where
     le_is : (a b : ℕ) → nat_le a b ≡ true → a ≤ b
     le_is a b h = search (arith)
 
-    by : (r : Right) (p : Piece) → is_part r ≡ false → can_accept setup.replicas (held_right setup logs me own r (span_given p)) p ≡ true
-        → (is_shared r ≡ true → held_count setup logs me own r + piece_count p ≤ setup.replicas) × (is_shared r ≡ false → held_count setup logs me own r + piece_count p ≤ 2 ^ 62)
-    by (right.Low c) (piece.Count n) whole can = (λ shared. absurd cc, λ counted. le_is (held_count setup logs me own (right.Low c) + n) (2 ^ 62) can)
-    by (right.Low c) (piece.Shares n m) whole can = absurd cc
-    by (right.Low c) (piece.Points span) whole can = absurd cc
-    by (right.High c) (piece.Count n) whole can = (λ shared. absurd cc, λ counted. le_is (held_count setup logs me own (right.High c) + n) (2 ^ 62) can)
-    by (right.High c) (piece.Shares n m) whole can = absurd cc
-    by (right.High c) (piece.Points span) whole can = absurd cc
-    by (right.Lock l key) (piece.Shares n m) whole can =
+    by : (r : Right) (p : Piece) → can_accept setup.replicas (held_right setup logs me own r (span_given p)) p ≡ true
+        → (is_shared r ≡ true → held_count setup logs me own r + piece_count p ≤ setup.replicas) × (is_shared r ≡ false → held_count setup logs me own r + piece_count p ≤ 2 ^ 62 + length own * 2 ^ 34)
+    by (right.Low c) (piece.Count n) can = (λ shared. absurd cc, λ counted. (let le = le_is (held_count setup logs me own (right.Low c) + n) (2 ^ 62) can in omega (arith, le)))
+    by (right.Low c) (piece.Shares n m) can = absurd cc
+    by (right.Low c) (piece.Points span) can = absurd cc
+    by (right.High c) (piece.Count n) can = (λ shared. absurd cc, λ counted. (let le = le_is (held_count setup logs me own (right.High c) + n) (2 ^ 62) can in omega (arith, le)))
+    by (right.High c) (piece.Shares n m) can = absurd cc
+    by (right.High c) (piece.Points span) can = absurd cc
+    by (right.Lock l key) (piece.Shares n m) can =
         let have : ℕ = held_count setup logs me own (right.Lock l key) in
         let parts = and_parts (nat_le (have + n) setup.replicas) ((have == 0) || same_mode m (mode_held setup logs me own (right.Lock l key))) can in
         (λ shared. le_is (have + n) setup.replicas parts.0, λ counted. absurd cc)
-    by (right.Lock l key) (piece.Count n) whole can = absurd cc
-    by (right.Lock l key) (piece.Points span) whole can = absurd cc
-    by (right.Entry c args i) (piece.Shares n m) whole can =
+    by (right.Lock l key) (piece.Count n) can = absurd cc
+    by (right.Lock l key) (piece.Points span) can = absurd cc
+    by (right.Entry c args i) (piece.Shares n m) can =
         let have : ℕ = held_count setup logs me own (right.Entry c args i) in
         let parts = and_parts (nat_le (have + n) setup.replicas) ((have == 0) || same_mode m (mode_held setup logs me own (right.Entry c args i))) can in
         (λ shared. le_is (have + n) setup.replicas parts.0, λ counted. absurd cc)
-    by (right.Entry c args i) (piece.Count n) whole can = absurd cc
-    by (right.Entry c args i) (piece.Points span) whole can = absurd cc
-    by (right.Part q key) p whole can = absurd cc
+    by (right.Entry c args i) (piece.Count n) can = absurd cc
+    by (right.Entry c args i) (piece.Points span) can = absurd cc
+    by (right.Part q key) (piece.Points span) can = (λ shared. absurd cc, λ counted. (let was = few.counts (right.Part q key) in omega (arith, was)))
+    by (right.Part q key) (piece.Count n) can = absurd cc
+    by (right.Part q key) (piece.Shares n m) can = absurd cc
 
 -- and stays few
-pub few_accepted : (setup : Setup) (logs : Logs) (me : ℕ) (own : List LogItem) (x out : LogItem) (from at to : ℕ) (r : Right) (p : Piece) → setup.replicas < 2 ^ 32 → is_part r ≡ false
+pub few_accepted : (setup : Setup) (logs : Logs) (me : ℕ) (own : List LogItem) (x out : LogItem) (from at to : ℕ) (r : Right) (p : Piece) → setup.replicas < 2 ^ 32
     → can_accept setup.replicas (held_right setup logs me own r (span_given p)) p ≡ true → x.body ≡ body.Accept from at → item_at logs from at ≡ Some out → out.body ≡ body.Out to r p
     → AreFew setup logs me own → AreFew setup logs me (own ++ x ∷ [])
-few_accepted setup logs me own x out from at to r p small whole can accept there gave few = record {
+few_accepted setup logs me own x out from at to r p small can accept there gave few = record {
   counts = λ q. few_more (held_count setup logs me (own ++ x ∷ []) q) (length own) (length (own ++ x ∷ [])) (length_push own x) (count q);
   shares = λ q shared. share q shared;
 }
@@ -107,7 +108,7 @@ few_accepted setup logs me own x out from at to r p small whole can accept there
         elim (cases_Bool (same_right r q)) [
           | inl same ↦
               let now = it q same in
-              let joined = joined_few setup logs me own r p whole can in
+              let joined = joined_few setup logs me own r p few can in
               elim (cases_Bool (is_shared r)) [
                 | inl shared ↦ let most = joined.0 shared in omega (arith, now, most, small)
                 | inr counted ↦ let most = joined.1 counted in omega (arith, now, most)
@@ -118,6 +119,6 @@ few_accepted setup logs me own x out from at to r p small whole can accept there
     share : (q : Right) → is_shared q ≡ true → held_count setup logs me (own ++ x ∷ []) q ≤ setup.replicas
     share q shared =
         elim (cases_Bool (same_right r q)) [
-          | inl same ↦ let now = it q same in let most = (joined_few setup logs me own r p whole can).0 (ap is_shared (same_is r q same) ∙ shared) in omega (arith, now, most)
+          | inl same ↦ let now = it q same in let most = (joined_few setup logs me own r p few can).0 (ap is_shared (same_is r q same) ∙ shared) in omega (arith, now, most)
           | inr not_it ↦ let now = other q not_it in let old = few.shares q shared in omega (arith, now, old)
         ]

@@ -1,6 +1,8 @@
 -- A table stays one by logs that are the same in all that its own log speaks of.
 use Rattle.std.proofs.Common.{◌≡◌, ℕ, zero, suc, ◌<◌, true, List, [], ◌∷◌, take, refl, sym, ap, ◌∙◌, arith}
-use Rattle.std.specs.Prelude.{slice_get, slice_index, Option, Some, None}
+use Rattle.std.specs.Option.{option_map_or}
+use Rattle.std.proofs.lemmas.List.Sums.{sum_by-cons}
+use Rattle.std.specs.Prelude.{sum_by, slice_get, slice_index, Option, Some, None}
 use Rattle.std.proofs.lemmas.Option.{same_Some}
 use Rattle.spec_model.specs.declared.plan.Setup.{Setup}
 use Rattle.spec_model.specs.declared.right.Mode.{Mode}
@@ -14,9 +16,10 @@ use Rattle.spec_model.specs.declared.log.Body.TheVariants as body
 use Rattle.spec_model.specs.declared.log.LogItem.{LogItem}
 use Rattle.spec_model.specs.Truths.{no_span}
 use Rattle.run_model.specs.Logs.{Logs, log_at, item_at, IsIn}
-use Rattle.run_model.specs.Rights.{is_shared, held_count}
+use Rattle.run_model.specs.Rights.{is_shared, held_count, accept_brings}
+use Rattle.run_model.specs.Points.{out_point}
 use Rattle.run_model.specs.Holding.{mode_of}
-use Rattle.run_model.proofs.Agreed.{Agrees, gains_all_agree}
+use Rattle.run_model.proofs.Agreed.{Agrees, AllAgree, gains_all_agree}
 use Rattle.run_model.proofs.Alike.{Alike, AllAlike, counts_alike, right_alike}
 use Rattle.run_model.proofs.Known.{items_fronts}
 use Rattle.run_model.proofs.Lists.{each_weaker}
@@ -50,6 +53,17 @@ agrees logs more (body.Accept from at) accepted = accepted from at refl
 
 -- ---- what is held is the same
 
+-- what is accepted brings the same
+brings_agree : (a b : Logs) (counted : Body → ℕ) (what : Body) → Agrees a b what → accept_brings a counted what ≡ accept_brings b counted what
+brings_agree a b counted (body.Act inst) h = refl
+brings_agree a b counted (body.Out to given piece) h = refl
+brings_agree a b counted (body.Accept from at) h = ap (λ (o : Option LogItem). option_map_or (λ (out : LogItem). counted out.body) o 0) h
+
+brings_all : (a b : Logs) (counted : Body → ℕ) (own : List LogItem) → AllAgree a b own → sum_by (λ item. accept_brings a counted item.body) own ≡ sum_by (λ item. accept_brings b counted item.body) own
+brings_all a b counted [] h = refl
+brings_all a b counted (item ∷ own) h =
+    omega (arith, sum_by-cons (λ (i : LogItem). accept_brings a counted i.body) item own, sum_by-cons (λ (i : LogItem). accept_brings b counted i.body) item own, brings_agree a b counted item.body h.0, brings_all a b counted own h.1)
+
 abbrev mode_told : Held → Mode
 mode_told (held.Shares n m) = m
 mode_told h = mode.Forbid
@@ -73,6 +87,8 @@ table_learns setup logs more me own t long same all =
         counts = λ r one. is.counts r one ∙ sym (counted r);
         modes = λ r one shared. is.modes r one shared ∙ sym (mode_alike setup more logs me own r shared alike);
         covered = λ r one. (let old = is.covered r one in let gains = gains_all_agree setup.spec more logs r own agree in omega (arith, old, gains));
+        points = λ r one x. (let old = is.points r one x in let brings = brings_all more logs (out_point r x) own agree in omega (arith, old, brings));
+        points_covered = λ r one x. (let old = is.points_covered r one x in let brings = brings_all more logs (out_point r x) own agree in omega (arith, old, brings));
       };
       few = record {
         counts = λ r. (let old = all.few.counts r in let now = counted r in omega (arith, old, now));

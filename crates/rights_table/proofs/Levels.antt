@@ -63,6 +63,7 @@ acts_none setup l acts t none = record {
   me = refl;
   replicas = refl;
   counts = λ q. refl;
+  points = λ q x. refl;
   modes = λ q. sym (cond-false ((count_in setup t q == setup.replicas) && acts q) (mode_set (mode_in t q) l) (mode_in t q) (second (count_in setup t q == setup.replicas) (acts q) (none q)));
   kept = λ q has. has;
 }
@@ -77,6 +78,7 @@ acts_both setup l f g h old mid new one two sum = record {
   me = two.me ∙ one.me;
   replicas = two.replicas ∙ one.replicas;
   counts = λ q. two.counts q ∙ one.counts q;
+  points = λ q x. two.points q x ∙ one.points q x;
   modes = λ q.
       two.modes q
       ∙ ap (λ n. cond ((n == setup.replicas) && g q) (mode_set (mode_in mid q) l) (mode_in mid q)) (one.counts q)
@@ -140,6 +142,7 @@ sets_modes setup needs old mid new allow forbid = record {
   me = forbid.me ∙ allow.me;
   replicas = forbid.replicas ∙ allow.replicas;
   counts = λ q. forbid.counts q ∙ allow.counts q;
+  points = λ q x. forbid.points q x ∙ allow.points q x;
   modes = λ q.
       let acts : Level → Bool = acts_at setup.replicas (shares_in setup old) needs q in
       forbid.modes q

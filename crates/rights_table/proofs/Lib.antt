@@ -3,6 +3,8 @@ pub mod Entries
 pub mod Rooms
 pub mod Giving
 pub mod Telling
+pub mod Started
+pub mod Untouched
 pub mod Stepped
 pub mod Pieces
 pub mod Lacking
@@ -12,7 +14,6 @@ pub mod Moves
 pub mod Lines
 pub mod Sums
 pub mod Logged
-pub mod Partless
 pub mod Touched
 pub mod Others
 pub mod Few

@@ -110,7 +110,7 @@ moves_like setup f g h k old new a b by =
     subst (λ (m : Right → ℕ). MovesBy setup m k old new) (fun_ext a) (subst (λ (m : Right → ℕ). MovesBy setup f m old new) (fun_ext b) by)
 
 pub moves_none : (setup : Setup) (f g : Right → ℕ) (t : Table) → ((q : Right) → f q ≡ 0) → ((q : Right) → g q ≡ 0) → MovesBy setup f g t t
-moves_none setup f g t a b = record { me = refl; replicas = refl; counts = λ q. (let x = a q in let y = b q in omega (arith, x, y)); modes = λ q. refl; kept = λ q has. has }
+moves_none setup f g t a b = record { me = refl; replicas = refl; counts = λ q. (let x = a q in let y = b q in omega (arith, x, y)); modes = λ q. refl; points = λ q x. refl; kept = λ q has. has }
 
 -- one after another
 pub moves_both : (setup : Setup) (f g h k : Right → ℕ) (fh gk : Right → ℕ) (a b c : Table) → MovesBy setup f g a b → MovesBy setup h k b c → ((q : Right) → fh q ≡ f q + h q) → ((q : Right) → gk q ≡ g q + k q) → MovesBy setup fh gk a c
@@ -119,5 +119,6 @@ moves_both setup f g h k fh gk a b c one two more less = record {
   replicas = two.replicas ∙ one.replicas;
   counts = λ q. (let x = one.counts q in let y = two.counts q in let m = more q in let l = less q in omega (arith, x, y, m, l));
   modes = λ q. two.modes q ∙ one.modes q;
+  points = λ q x. two.points q x ∙ one.points q x;
   kept = λ q has. two.kept q (one.kept q has);
 }

@@ -18,11 +18,12 @@ use Rattle.spec_model.specs.declared.log.Body.TheVariants as body
 use Rattle.spec_model.specs.declared.log.LogItem.{LogItem}
 use Rattle.spec_model.specs.Needs.{spends, creates}
 use Rattle.run_model.specs.Logs.{Logs}
-use Rattle.run_model.specs.Rights.{is_shared, held_count, body_gains, body_loses}
+use Rattle.run_model.specs.Rights.{is_shared, held_count, body_gains, body_loses, accept_brings}
+use Rattle.run_model.specs.Points.{out_point}
 use Rattle.run_model.specs.Holding.{mode_of, next_mode, needs_in, shares_of, mode_set as modes_set}
 use Rattle.run_model.specs.Levels.{is_permitted, mode_permits, acts_on, acts_at, is_at, choices_of, forbid_at}
 use Rattle.rights_table.specs.declared.table.Table.{Table}
-use Rattle.rights_table.specs.Tables.{IsTable, count_in, mode_in}
+use Rattle.rights_table.specs.Tables.{IsTable, count_in, mode_in, point_in}
 use Rattle.rights_table.specs.Cells.{MovesBy}
 use Rattle.rights_table.specs.Acting.{SetsModes, IsOnShares, AreOnShares}
 use Rattle.rights_table.proofs.ActedOn.{literal_shared}
@@ -69,6 +70,7 @@ acted setup logs me own x inst needs old mid new on sets moves act needed is =
       me = moves.me ∙ sets.me;
       replicas = moves.replicas ∙ sets.replicas;
       counts = λ q one. subst (λ (b : Body). count_in setup new q + body_loses setup.spec q b ≡ count_in setup old q + body_gains setup.spec logs q b) (sym act) (let by = moves.counts q in let same = sets.counts q in omega (arith, by, same));
+      points = λ q one y. subst (λ (b : Body). point_in setup new q y + out_point q y b ≡ point_in setup old q y + accept_brings logs (out_point q y) b) (sym act) (let by = moves.points q y in let same = sets.points q y in omega (arith, by, same));
       modes = λ q one shared.
           subst (λ (b : Body). mode_in new q ≡ next_mode setup logs have modes x.deps b q) (sym act)
           (moves.modes q ∙ sets.modes q

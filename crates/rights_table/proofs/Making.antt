@@ -32,10 +32,11 @@ same_both setup a b c one two = record {
   replicas = two.replicas ∙ one.replicas;
   counts = λ r. two.counts r ∙ one.counts r;
   modes = λ r. two.modes r ∙ one.modes r;
+  points = λ r x. two.points r x ∙ one.points r x;
 }
 
 pub same_self : (setup : Setup) (t : Table) → TellTheSame setup t t
-same_self setup t = record { me = refl; replicas = refl; counts = λ r. refl; modes = λ r. refl }
+same_self setup t = record { me = refl; replicas = refl; counts = λ r. refl; modes = λ r. refl; points = λ r x. refl }
 
 -- one that tells the same has all as well
 pub all_same : (setup : Setup) (logs : Logs) (me : ℕ) (own : List LogItem) (old new : Table) → TellTheSame setup old new → HasAll setup logs me own old → HasAll setup logs me own new
@@ -45,6 +46,8 @@ all_same setup logs me own old new same has = record {
     counts = λ r one. same.counts r ∙ has.table.counts r one;
     modes = λ r one shared. same.modes r ∙ has.table.modes r one shared;
     covered = has.table.covered;
+    points = λ r one x. same.points r x ∙ has.table.points r one x;
+    points_covered = has.table.points_covered;
   };
   few = has.few;
 }

@@ -12,9 +12,10 @@ use Rattle.spec_model.specs.declared.log.Body.TheVariants as body
 use Rattle.spec_model.specs.declared.log.LogItem.{LogItem}
 use Rattle.run_model.specs.Logs.{Logs, item_at}
 use Rattle.run_model.specs.Rights.{same_right, piece_count, body_gains, body_loses, held_count, accept_brings, out_gives}
+use Rattle.run_model.specs.Points.{out_point, piece_point}
 use Rattle.run_model.specs.Holding.{mode_of as mode_held, next_mode, out_mode, piece_mode}
 use Rattle.rights_table.specs.declared.table.Table.{Table}
-use Rattle.rights_table.specs.Tables.{count_in, mode_in, IsTable}
+use Rattle.rights_table.specs.Tables.{count_in, mode_in, point_in, IsTable}
 use Rattle.rights_table.proofs.Stepped.{table_step}
 
 -- an Out
@@ -26,6 +27,7 @@ others_given setup logs me own among x to r p t other out is =
       me = refl;
       replicas = refl;
       counts = λ q one. subst (λ (b : Body). count_in setup t q + body_loses setup.spec q b ≡ count_in setup t q + body_gains setup.spec logs q b) (sym out) (let none = cond-false (same_right r q) (piece_count p) 0 (other q one) in omega (arith, none));
+      points = λ q one y. subst (λ (b : Body). point_in setup t q y + out_point q y b ≡ point_in setup t q y + accept_brings logs (out_point q y) b) (sym out) (let none = cond-false (same_right r q) (piece_point y p) 0 (other q one) in omega (arith, none));
       modes = λ q one shared. subst (λ (b : Body). mode_in t q ≡ next_mode setup logs (held_count setup logs me own) (mode_held setup logs me own) x.deps b q) (sym out) (is.modes q one shared);
     })
 
@@ -40,6 +42,10 @@ others_accepted setup logs me own among x out from at to r p t other accept ther
       counts = λ q one. subst (λ (b : Body). count_in setup t q + body_loses setup.spec q b ≡ count_in setup t q + body_gains setup.spec logs q b) (sym accept)
           (let brings : accept_brings logs (out_gives q) (body.Accept from at) ≡ cond (same_right r q) (piece_count p) 0 = ap (λ (o : Option LogItem). option_map_or (λ (i : LogItem). out_gives q i.body) o 0) there ∙ ap (out_gives q) gave in
           let none = cond-false (same_right r q) (piece_count p) 0 (other q one) in
+          omega (arith, brings, none));
+      points = λ q one y. subst (λ (b : Body). point_in setup t q y + out_point q y b ≡ point_in setup t q y + accept_brings logs (out_point q y) b) (sym accept)
+          (let brings : accept_brings logs (out_point q y) (body.Accept from at) ≡ cond (same_right r q) (piece_point y p) 0 = ap (λ (o : Option LogItem). option_map_or (λ (i : LogItem). out_point q y i.body) o 0) there ∙ ap (out_point q y) gave in
+          let none = cond-false (same_right r q) (piece_point y p) 0 (other q one) in
           omega (arith, brings, none));
       modes = λ q one shared. subst (λ (b : Body). mode_in t q ≡ next_mode setup logs (held_count setup logs me own) (mode_held setup logs me own) x.deps b q) (sym accept)
           (is.modes q one shared ∙ sym (stays q (other q one)));

@@ -9,15 +9,16 @@ use Rattle.spec_model.specs.declared.right.Mode.TheVariants as mode
 use Rattle.spec_model.specs.declared.right.Right.{Right}
 use Rattle.spec_model.specs.declared.log.LogItem.{LogItem}
 use Rattle.run_model.specs.Logs.{Logs}
-use Rattle.run_model.specs.Rights.{same_right, is_shared, even_share, first_total, body_gains, body_loses, held_count}
+use Rattle.run_model.specs.Rights.{same_right, is_shared, even_share, first_total, body_gains, body_loses, held_count, accept_brings}
 use Rattle.run_model.specs.Holding.{mode_of as mode_held, next_mode}
+use Rattle.run_model.specs.Points.{first_point, out_point, point_count}
 use Rattle.run_model.proofs.Modes.{mode_push}
 use Rattle.rights_table.specs.declared.holding.Holding.{Holding}
 use Rattle.rights_table.specs.declared.table.Table.{Table}
-use Rattle.rights_table.specs.Holdings.{count_of, mode_of}
-use Rattle.rights_table.specs.Tables.{entered, count_in, mode_in, IsTable, Becomes}
+use Rattle.rights_table.specs.Holdings.{count_of, mode_of, point_of}
+use Rattle.rights_table.specs.Tables.{entered, count_in, mode_in, point_in, IsTable, Becomes}
 use Rattle.rights_table.proofs.Same.{same_is}
-use Rattle.rights_table.proofs.Telling.{count_entered, mode_entered}
+use Rattle.rights_table.proofs.Telling.{count_entered, mode_entered, point_entered}
 
 -- what an item does to the table, right by right
 pub record StepsBy (setup : Setup) (logs : Logs) (replica : ℕ) (own : List LogItem) (among : Right → Bool) (x : LogItem) (old new : Table) : Type 0 where
@@ -25,6 +26,7 @@ pub record StepsBy (setup : Setup) (logs : Logs) (replica : ℕ) (own : List Log
   pub replicas : new.replicas ≡ old.replicas
   pub counts : (q : Right) → among q ≡ true → count_in setup new q + body_loses setup.spec q x.body ≡ count_in setup old q + body_gains setup.spec logs q x.body
   pub modes : (q : Right) → among q ≡ true → is_shared q ≡ true → mode_in new q ≡ next_mode setup logs (held_count setup logs replica own) (mode_held setup logs replica own) x.deps x.body q
+  pub points : (q : Right) → among q ≡ true → (y : ℕ) → point_in setup new q y + out_point q y x.body ≡ point_in setup old q y + accept_brings logs (out_point q y) x.body
 
 -- the sums with an item more
 sums : (share gained lost more less g l old new : ℕ) → lost ≤ share + gained → more ≡ gained + g → less ≡ lost + l → old ≡ (share + gained) - lost → new + l ≡ old + g → (new ≡ (share + more) - less) × (less ≤ share + more)
@@ -36,6 +38,8 @@ table_step setup logs me own among x old new is by = record {
   counts = λ q one. (at q one).0;
   modes = λ q one shared. by.modes q one shared ∙ sym (mode_push setup logs me own x q);
   covered = λ q one. (at q one).1;
+  points = λ q one y. (point q one y).0;
+  points_covered = λ q one y. (point q one y).1;
 }
   where
     at : (q : Right) → among q ≡ true → (count_in setup new q ≡ held_count setup logs me (own ++ x ∷ []) q) × (sum_by (λ item. body_loses setup.spec q item.body) (own ++ x ∷ []) ≤ even_share (first_total setup q) setup.replicas me + sum_by (λ item. body_gains setup.spec logs q item.body) (own ++ x ∷ []))
@@ -44,6 +48,13 @@ table_step setup logs me own among x old new is by = record {
         let loses = λ (i : LogItem). body_loses setup.spec q i.body in
         sums (even_share (first_total setup q) setup.replicas me) (sum_by gains own) (sum_by loses own) (sum_by gains (own ++ x ∷ [])) (sum_by loses (own ++ x ∷ [])) (gains x) (loses x) (count_in setup old q) (count_in setup new q)
         (is.covered q one) (sum_by_push gains own x) (sum_by_push loses own x) (is.counts q one) (by.counts q one)
+
+    point : (q : Right) → among q ≡ true → (y : ℕ) → (point_in setup new q y ≡ point_count setup logs me (own ++ x ∷ []) q y) × (sum_by (λ item. out_point q y item.body) (own ++ x ∷ []) ≤ first_point setup me q y + sum_by (λ item. accept_brings logs (out_point q y) item.body) (own ++ x ∷ []))
+    point q one y =
+        let gains = λ (i : LogItem). accept_brings logs (out_point q y) i.body in
+        let loses = λ (i : LogItem). out_point q y i.body in
+        sums (first_point setup me q y) (sum_by gains own) (sum_by loses own) (sum_by gains (own ++ x ∷ [])) (sum_by loses (own ++ x ∷ [])) (gains x) (loses x) (point_in setup old q y) (point_in setup new q y)
+        (is.points_covered q one y) (sum_by_push gains own x) (sum_by_push loses own x) (is.points q one y) (by.points q one y)
 
 -- ---- one holding that becomes another
 
@@ -92,4 +103,43 @@ mode_stays r q before after old new becomes same_mode =
     ∙ elim (cases_Bool (same_right r q)) [
       | inl same ↦ cond-true (same_right r q) (mode_of after) (mode_in old q) same ∙ same_mode ∙ sym (ap (mode_in old) (sym (same_is r q same)) ∙ mode_entered old r before becomes.was)
       | inr other ↦ cond-false (same_right r q) (mode_of after) (mode_in old q) other
+    ]
+
+-- how often a point is held of each right
+point_becomes : (setup : Setup) (r q : Right) (y : ℕ) (before after : Holding) (old new : Table) → Becomes r before after old new → point_in setup new q y ≡ cond (same_right r q) (point_of after y) (point_in setup old q y)
+point_becomes setup r q y before after old new becomes =
+    let f : Holding → ℕ = λ h. point_of h y in
+    ap (λ m. option_map_or f (entered new q) (first_point setup m q y)) becomes.me
+    ∙ ap (λ (o : Option Holding). option_map_or f o (first_point setup old.me q y)) (becomes.is q)
+    ∙ inside (same_right r q) (entered old q) (first_point setup old.me q y)
+  where
+    inside : (b : Bool) (o : Option Holding) (n : ℕ) → option_map_or (λ (h : Holding). point_of h y) (cond b (Some after) o) n ≡ cond b (point_of after y) (option_map_or (λ (h : Holding). point_of h y) o n)
+    inside true o n = refl
+    inside false o n = refl
+
+-- so often fewer and more of the right
+pub point_by : (setup : Setup) (r q : Right) (y : ℕ) (before after : Holding) (old new : Table) (less more : ℕ) → Becomes r before after old new → point_of after y + less ≡ point_of before y + more
+    → point_in setup new q y + cond (same_right r q) less 0 ≡ point_in setup old q y + cond (same_right r q) more 0
+point_by setup r q y before after old new less more becomes sum =
+    elim (cases_Bool (same_right r q)) [
+      | inl same ↦
+          let was : point_in setup old q y ≡ point_of before y = ap (λ (p : Right). point_in setup old p y) (sym (same_is r q same)) ∙ point_entered setup old r before y becomes.was in
+          let now : point_in setup new q y ≡ point_of after y = point_becomes setup r q y before after old new becomes ∙ cond-true (same_right r q) (point_of after y) (point_in setup old q y) same in
+          let l = cond-true (same_right r q) less 0 same in
+          let m = cond-true (same_right r q) more 0 same in
+          omega (arith, was, now, l, m, sum)
+      | inr other ↦
+          let now : point_in setup new q y ≡ point_in setup old q y = point_becomes setup r q y before after old new becomes ∙ cond-false (same_right r q) (point_of after y) (point_in setup old q y) other in
+          let l = cond-false (same_right r q) less 0 other in
+          let m = cond-false (same_right r q) more 0 other in
+          omega (arith, now, l, m)
+    ]
+
+-- points that stay there stay everywhere
+pub points_stay : (setup : Setup) (r q : Right) (y : ℕ) (before after : Holding) (old new : Table) → Becomes r before after old new → point_of after y ≡ point_of before y → point_in setup new q y ≡ point_in setup old q y
+points_stay setup r q y before after old new becomes same =
+    point_becomes setup r q y before after old new becomes
+    ∙ elim (cases_Bool (same_right r q)) [
+      | inl it ↦ cond-true (same_right r q) (point_of after y) (point_in setup old q y) it ∙ same ∙ sym (ap (λ (p : Right). point_in setup old p y) (sym (same_is r q it)) ∙ point_entered setup old r before y becomes.was)
+      | inr other ↦ cond-false (same_right r q) (point_of after y) (point_in setup old q y) other
     ]

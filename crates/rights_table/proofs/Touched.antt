@@ -6,18 +6,19 @@ use Rattle.spec_model.specs.declared.plan.Setup.{Setup}
 use Rattle.spec_model.specs.declared.right.Right.{Right}
 use Rattle.spec_model.specs.declared.log.LogItem.{LogItem}
 use Rattle.run_model.specs.Logs.{Logs}
-use Rattle.run_model.specs.Rights.{same_right, is_shared, even_share, first_total, body_gains, body_loses, held_count}
+use Rattle.run_model.specs.Rights.{same_right, is_shared, even_share, first_total, body_gains, body_loses, held_count, accept_brings}
+use Rattle.run_model.specs.Points.{first_point, out_point, point_count}
 use Rattle.run_model.specs.Holding.{mode_of as mode_held}
 use Rattle.rights_table.specs.declared.holding.Holding.{Holding}
 use Rattle.rights_table.specs.declared.overlay.Overlay.{Overlay}
 use Rattle.rights_table.specs.declared.table.Table.{Table}
 use Rattle.rights_table.specs.Overlays.{IsOverlay}
-use Rattle.rights_table.specs.Tables.{entered, count_in, mode_in, IsEntered, IsTable, KeepsEntries, TakesOver}
+use Rattle.rights_table.specs.Tables.{entered, count_in, mode_in, point_in, IsEntered, IsTable, KeepsEntries, TakesOver}
 use Rattle.rights_table.specs.Whole.{AreFew, HasAll}
 use Rattle.rights_table.proofs.Same.{same_is}
-use Rattle.rights_table.proofs.Telling.{count_entered, mode_entered}
+use Rattle.rights_table.proofs.Telling.{count_entered, mode_entered, point_entered}
 
-clash : (b : Bool) → b ≡ true → b ≡ false → ⊥
+pub clash : (b : Bool) → b ≡ true → b ≡ false → ⊥
 clash b p q = absurd cc
 
 -- fewer rights
@@ -27,20 +28,24 @@ among_fewer setup logs me own among fewer t less is = record {
   counts = λ q one. is.counts q (less q one);
   modes = λ q one shared. is.modes q (less q one) shared;
   covered = λ q one. is.covered q (less q one);
+  points = λ q one x. is.points q (less q one) x;
+  points_covered = λ q one x. is.points_covered q (less q one) x;
 }
 
 -- ---- touching
 
 -- at first all is told by the table
-pub none_touched : (setup : Setup) (logs : Logs) (me : ℕ) (own : List LogItem) (o : Overlay) → o.touched.me ≡ o.under.now.me → o.touched.replicas ≡ setup.replicas → ((q : Right) → entered o.touched q ≡ None) → HasAll setup logs me own o.under.now → IsOverlay setup logs me own o
+pub none_touched : (setup : Setup) (logs : Logs) (me : ℕ) (own : List LogItem) (o : Overlay) → o.touched.me ≡ o.under.now.me → o.touched.replicas ≡ o.under.now.replicas → ((q : Right) → entered o.touched q ≡ None) → HasAll setup logs me own o.under.now → IsOverlay setup logs me own o
 none_touched setup logs me own o same replicas none all =
     let never : (q : Right) → is_some (entered o.touched q) ≡ true → ⊥ = λ q one. clash (is_some (entered o.touched q)) one (ap (λ (h : Option Holding). is_some h) (none q)) in
     record {
       touched = record {
-        of = record { me = same ∙ all.table.of.me; replicas = replicas };
+        of = record { me = same ∙ all.table.of.me; replicas = replicas ∙ all.table.of.replicas };
         counts = λ q one. absurd (never q one);
         modes = λ q one shared. absurd (never q one);
         covered = λ q one. absurd (never q one);
+        points = λ q one x. absurd (never q one);
+        points_covered = λ q one x. absurd (never q one);
       };
       rest = among_fewer setup logs me own (λ q. true) (λ q. not (is_some (entered o.touched q))) o.under.now (λ q one. refl) all.table;
       few = all.few;
@@ -71,6 +76,8 @@ touched_more setup logs me own o p same over is = record {
     counts = λ q one. count (entered o.touched q) (entered p.touched q) q refl refl one;
     modes = λ q one shared. mode (entered o.touched q) (entered p.touched q) q refl refl one shared;
     covered = λ q one. covers (entered o.touched q) q refl;
+    points = λ q one x. point (entered o.touched q) (entered p.touched q) q x refl refl one;
+    points_covered = λ q one x. covers_points (entered o.touched q) q x refl;
   };
   rest = among_fewer setup logs me own (λ q. not (is_some (entered o.touched q))) (λ q. not (is_some (entered p.touched q))) p.under.now
       (λ q. none_kept (is_some (entered o.touched q)) (is_some (entered p.touched q)) (some_kept o.touched p.touched q (over.kept q)))
@@ -93,6 +100,16 @@ touched_more setup logs me own o p same over is = record {
     mode (Some h) new q before now one shared = mode_entered p.touched q h (over.kept q h before) ∙ sym (mode_entered o.touched q h before) ∙ is.touched.modes q (was q h before) shared
     mode None (Some h) q before now one shared = mode_entered p.touched q h now ∙ (over.more q h before now).1 ∙ is.rest.modes q (was_none q before) shared
     mode None None q before now one shared = absurd cc
+
+    point : (old new : Option Holding) (q : Right) (x : ℕ) → entered o.touched q ≡ old → entered p.touched q ≡ new → is_some new ≡ true → point_in setup p.touched q x ≡ point_count setup logs me own q x
+    point (Some h) new q x before now one = point_entered setup p.touched q h x (over.kept q h before) ∙ sym (point_entered setup o.touched q h x before) ∙ is.touched.points q (was q h before) x
+    point None (Some h) q x before now one = point_entered setup p.touched q h x now ∙ (over.more q h before now).2 x ∙ is.rest.points q (was_none q before) x
+    point None None q x before now one = absurd cc
+
+    covers_points : (old : Option Holding) (q : Right) (x : ℕ) → entered o.touched q ≡ old
+        → sum_by (λ item. out_point q x item.body) own ≤ first_point setup me q x + sum_by (λ item. accept_brings logs (out_point q x) item.body) own
+    covers_points (Some h) q x before = is.touched.points_covered q (was q h before) x
+    covers_points None q x before = is.rest.points_covered q (was_none q before) x
 
     covers : (old : Option Holding) (q : Right) → entered o.touched q ≡ old
         → sum_by (λ item. body_loses setup.spec q item.body) own ≤ even_share (first_total setup q) setup.replicas me + sum_by (λ item. body_gains setup.spec logs q item.body) own

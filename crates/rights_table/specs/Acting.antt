@@ -1,5 +1,5 @@
 -- Acting at levels: what the needs of an act do to the modes of a table.
-use Rattle.std.specs.Prelude.{◌≡◌, true, false, List, Bool, ◌==◌, ◌&&◌, if◌then◌else◌, Option}
+use Rattle.std.specs.Prelude.{◌≡◌, true, false, ℕ, List, Bool, ◌==◌, ◌&&◌, if◌then◌else◌, Option}
 use Rattle.std.specs.List.{AllByRecursion}
 use Rattle.std.specs.Option.{option_map_or}
 use Rattle.spec_model.specs.declared.plan.Setup.{Setup}
@@ -14,7 +14,7 @@ use Rattle.run_model.specs.Levels.{acts_at}
 use Rattle.run_model.specs.Holding.{shares_of, mode_set as modes_set}
 use Rattle.multilevel_locks.specs.Shares.{mode_set}
 use Rattle.rights_table.specs.declared.table.Table.{Table}
-use Rattle.rights_table.specs.Tables.{count_in, mode_in, IsEntered}
+use Rattle.rights_table.specs.Tables.{count_in, mode_in, point_in, IsEntered}
 
 -- the shares that a table has of each right
 abbrev pub shares_in : Setup → Table → Need → Held
@@ -29,6 +29,7 @@ pub record ActsBy (setup : Setup) (l : Level) (acts : Right → Bool) (old new :
   pub me : new.me ≡ old.me
   pub replicas : new.replicas ≡ old.replicas
   pub counts : (q : Right) → count_in setup new q ≡ count_in setup old q
+  pub points : (q : Right) (x : ℕ) → point_in setup new q x ≡ point_in setup old q x
   pub modes : (q : Right) → mode_in new q ≡ (if (count_in setup old q == setup.replicas) && acts q then mode_set (mode_in old q) l else mode_in old q)
   pub kept : (q : Right) → IsEntered old q → IsEntered new q
 
@@ -50,5 +51,6 @@ pub record SetsModes (setup : Setup) (needs : List Need) (old new : Table) : Typ
   pub me : new.me ≡ old.me
   pub replicas : new.replicas ≡ old.replicas
   pub counts : (q : Right) → count_in setup new q ≡ count_in setup old q
+  pub points : (q : Right) (x : ℕ) → point_in setup new q x ≡ point_in setup old q x
   pub modes : (q : Right) → mode_in new q ≡ (if count_in setup old q == setup.replicas then modes_set (acts_at setup.replicas (shares_in setup old) needs q) (mode_in old q) else mode_in old q)
   pub kept : (q : Right) → IsEntered old q → IsEntered new q

@@ -13,7 +13,7 @@ use Rattle.spec_model.specs.Universe.{lower_bound, upper_bound}
 use Rattle.spec_model.specs.Changes.{line_adds, line_subtracts, effect_lines, same_cell, cell_named}
 use Rattle.run_model.specs.Rights.{same_right}
 use Rattle.rights_table.specs.declared.table.Table.{Table}
-use Rattle.rights_table.specs.Tables.{count_in, mode_in, IsEntered}
+use Rattle.rights_table.specs.Tables.{count_in, mode_in, point_in, IsEntered}
 
 -- how many of a right a line adds, before what others take away: to lower what it raises, to raise what it lowers
 abbrev pub line_gains : Spec → Inst → Right → Line → ℕ
@@ -44,6 +44,7 @@ pub record MovesBy (setup : Setup) (more less : Right → ℕ) (old new : Table)
   pub replicas : new.replicas ≡ old.replicas
   pub counts : (q : Right) → count_in setup new q + less q ≡ count_in setup old q + more q
   pub modes : (q : Right) → mode_in new q ≡ mode_in old q
+  pub points : (q : Right) (x : ℕ) → point_in setup new q x ≡ point_in setup old q x
   pub kept : (q : Right) → IsEntered old q → IsEntered new q
 
 -- the line is about the cell

@@ -1,6 +1,5 @@
 -- Needs that aren't met, and that a table tells what is held.
 use Rattle.std.specs.Prelude.{◌≡◌, true, ℕ, List}
-use Rattle.std.specs.List.{AllByRecursion}
 use Rattle.spec_model.specs.declared.plan.Setup.{Setup}
 use Rattle.spec_model.specs.declared.right.Need.{Need}
 use Rattle.spec_model.specs.declared.right.Held.{Held}
@@ -10,7 +9,6 @@ use Rattle.run_model.specs.Logs.{Logs}
 use Rattle.run_model.specs.Holding.{held_of}
 use Rattle.run_model.specs.Levels.{first_lacking, is_met}
 use Rattle.rights_table.specs.declared.table.Table.{Table}
-use Rattle.rights_table.specs.Parts.{SpeaksOfNone}
 use Rattle.rights_table.specs.Tables.{IsTable, holding_in}
 
 -- a need with what is held of it
@@ -19,9 +17,9 @@ lacking_of holding need = record { need = need; held = holding need }
 
 -- a table of all rights: what it tells of a need is what is held, it meets the needs that are met, and the first that isn't is the same
 pub record Tells (setup : Setup) (logs : Logs) (me : ℕ) (own : List LogItem) (t : Table) : Type 0 where
-  pub held : (need : Need) → SpeaksOfNone need → holding_in setup t need ≡ held_of setup logs me own need
-  pub met : (need : Need) → SpeaksOfNone need → is_met setup.replicas (holding_in setup t) need ≡ is_met setup.replicas (held_of setup logs me own) need
-  pub lacking : (needs : List Need) → AllByRecursion SpeaksOfNone needs → first_lacking setup.replicas (holding_in setup t) needs ≡ first_lacking setup.replicas (held_of setup logs me own) needs
+  pub held : (need : Need) → holding_in setup t need ≡ held_of setup logs me own need
+  pub met : (need : Need) → is_met setup.replicas (holding_in setup t) need ≡ is_met setup.replicas (held_of setup logs me own) need
+  pub lacking : (needs : List Need) → first_lacking setup.replicas (holding_in setup t) needs ≡ first_lacking setup.replicas (held_of setup logs me own) needs
 
 abbrev pub TablesTell : Type 0
 TablesTell = (setup : Setup) (logs : Logs) (me : ℕ) (own : List LogItem) (t : Table) → IsTable setup logs me own (λ r. true) t → Tells setup logs me own t

@@ -1,7 +1,7 @@
 pub mod Holdings
+pub mod First
 pub mod Steps
 pub mod Entries
-pub mod Parts
 pub mod Tables
 pub mod Lacks
 pub mod Acting

@@ -1,13 +1,13 @@
 -- Steps with the holding of a right.
-use Rattle.std.specs.Prelude.{◌≡◌, true, ◌+◌, ◌<◌, ◌≤◌, ◌^◌}
+use Rattle.std.specs.Prelude.{◌≡◌, true, ◌+◌, ◌<◌, ◌^◌}
 use Rattle.rights_table.specs.declared.holding.Holding.{Holding}
 use Rattle.rights_table.specs.declared.step.Step.{Step}
 use Rattle.rights_table.specs.declared.step.Step.TheVariants as step
-use Rattle.rights_table.specs.Holdings.{count_of, is_count, size, permits, spent, MayGive, MayAccept, Given, Accepted}
+use Rattle.rights_table.specs.Holdings.{count_of, is_count, permits, spent, MayGive, MayAccept, Given, Accepted}
 
 -- what is given is held, what is accepted joins it, what is spent is permitted, and a count stays within 64 bits
 abbrev pub MayStep : Holding → Step → Type 0
-MayStep h (step.Give piece) = MayGive h piece × (size piece ≤ count_of h)
+MayStep h (step.Give piece) = MayGive h piece
 MayStep h (step.Accept piece) = MayAccept h piece
 MayStep h (step.Spend ask) = permits h ask ≡ true
 MayStep h (step.Create n) = (is_count h ≡ true) × (count_of h + n < 2 ^ 64)

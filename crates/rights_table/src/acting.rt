@@ -10,7 +10,6 @@ ghost use Rattle.spec_model.specs.declared.right.Level.TheVariants as level_of;
 ghost use Rattle.spec_model.specs.declared.right.Amount.TheVariants as amount;
 ghost use Rattle.run_model.specs.Rights as rights;
 ghost use Rattle.run_model.specs.Levels as levels;
-ghost use Rattle.rights_table.specs.Parts.{is_part, SpeaksOfNone};
 
 use crate::step::Step;
 use crate::table::Table;

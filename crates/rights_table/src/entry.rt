@@ -7,7 +7,7 @@ use crate::holding::Holding;
 use spec_model::Right;
 
 /// A right, and what is held of it.
-#[derive(Clone, Copy)]
+#[derive(Drop)]
 pub(crate) struct Entry {
     pub(crate) right: Right,
     pub(crate) holding: Holding,

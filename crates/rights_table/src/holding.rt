@@ -1,17 +1,21 @@
 //! A holding of one right, of any kind.
 
-ghost use Rattle.std.specs.Prelude.{◌≡◌, ◌+◌, ◌<◌, ◌^◌, true};
+ghost use Rattle.std.specs.Prelude.{◌≡◌, ◌+◌, ◌<◌, ◌≤◌, ◌^◌, ℕ, true, IfOk};
+ghost use Rattle.multilevel_locks.specs.Holdings as shares_of;
 
 use escrow_rights::Escrow;
-use ind_base::{GiveError, NoMemory, RightKind};
+use ind_base::{NoMemory, RightKind, Span};
 use multilevel_locks::{Shares, SharesPiece};
+use partition_locks::Points;
 use spec_model::{Held, Mode, Piece, WantAsk};
+use std::alloc::Global;
 
-/// What is held of one right: a count, or shares in a mode.
-#[derive(Clone, Copy)]
+/// What is held of one right: a count, shares in a mode, or points.
+#[derive(Drop)]
 pub enum Holding {
     Count(Escrow),
     Shares(Shares),
+    Points(Points),
 }
 
 /// Some shares in a mode.
@@ -21,12 +25,58 @@ fn in_mode(shares: u32, mode: Mode) -> SharesPiece
     SharesPiece { shares, mode }
 }
 
+/// Gives some of a count.
+fn give_count(escrow: &mut Escrow, n: u64)
+    requires { n ≤ escrow.old.count }
+    ensures { escrow.new.count + n ≡ escrow.old.count }
+{
+    match escrow.give(&n) {
+        Ok(()) => {}
+        Err(_) => unreachable!(),
+    }
+}
+
+/// Gives some shares.
+fn give_shares(held: &mut Shares, piece: SharesPiece)
+    requires mode { piece.mode ≡ held.old.mode }
+    requires held { piece.shares ≤ held.old.shares }
+    ensures { shares_of.IsLess held.old piece held.new }
+{
+    match held.give(&piece) {
+        Ok(()) => {}
+        Err(_) => unreachable!(),
+    }
+}
+
+/// Accepts some more of a count.
+fn accept_count(escrow: &mut Escrow, n: u64)
+    requires { escrow.old.count + n < 2 ^ 64 }
+    ensures { escrow.new.count ≡ escrow.old.count + n }
+{
+    match escrow.accept(&n) {
+        Ok(()) => {}
+        Err(_) => unreachable!(),
+    }
+}
+
+/// Accepts some shares.
+fn accept_shares(held: &mut Shares, piece: SharesPiece)
+    requires { shares_of.Joins held.old piece }
+    ensures { shares_of.IsMore held.old piece held.new }
+{
+    match held.accept(&piece) {
+        Ok(()) => {}
+        Err(_) => unreachable!(),
+    }
+}
+
 impl Holding {
+    ghost use Rattle.rights_table.specs.First.{IsOfSome, IsSame};
     ghost use Rattle.rights_table.specs.Holdings as holdings;
 
-    /// What is told of it.
-    pub(crate) fn told(&self) -> Held
-        ensures { result ≡ holdings.told self.now }
+    /// What is told of it, of points those of a span.
+    pub(crate) fn told(&self, span: &Span) -> Held
+        ensures { result ≡ holdings.told self.now span.now }
     {
         match self {
             Holding::Count(escrow) => Held::Count(escrow.count),
@@ -34,6 +84,22 @@ impl Holding {
                 shares: shares.shares,
                 mode: shares.mode,
             },
+            Holding::Points(points) => Held::Points {
+                missing: points.first_missing(span),
+                run: points.first_run(span),
+            },
+        }
+    }
+
+    /// The same in a value of its own.
+    pub(crate) fn copy(&self, alloc: Global) -> Result<Holding, NoMemory>
+        requires { IsOfSome self.now }
+        ensures { IfOk result (IsSame self.now) }
+    {
+        match self {
+            Holding::Count(escrow) => Ok(Holding::Count(*escrow)),
+            Holding::Shares(shares) => Ok(Holding::Shares(*shares)),
+            Holding::Points(points) => Ok(Holding::Points(points.copy_roomy(alloc)?)),
         }
     }
 
@@ -47,88 +113,67 @@ impl Holding {
         match self {
             Holding::Count(escrow) => escrow.create(n),
             Holding::Shares(_) => unreachable!(),
-        }
-    }
-}
-
-impl RightKind for Holding {
-    ghost use Rattle.rights_table.specs.Holdings as holdings;
-
-    type Ask = WantAsk;
-
-    type Piece = Piece;
-
-    ghost permits = { λ h ask. holdings.permits h ask };
-
-    ghost counted = { λ h x. holdings.count_of h };
-
-    ghost counted_of = { λ p x. holdings.size p };
-
-    ghost held_of = { λ h p. holdings.held_of h p };
-
-    ghost size = { λ p. holdings.size p };
-
-    ghost may_give = { λ h p. holdings.MayGive h p };
-
-    ghost may_accept = { λ h p. holdings.MayAccept h p };
-
-    ghost given = { λ h p new. holdings.Given h p new };
-
-    ghost accepted = { λ h p new. holdings.Accepted h p new };
-
-    ghost spent = { λ h ask. holdings.spent h ask };
-
-    ghost room = { λ h. 1 };
-
-    fn can(&self, ask: &WantAsk) -> bool {
-        match self {
-            Holding::Count(escrow) => match *ask {
-                WantAsk::Count(n) => escrow.can(&n),
-                _ => false,
-            },
-            Holding::Shares(shares) => match *ask {
-                WantAsk::Level(level) => shares.can(&level),
-                _ => false,
-            },
+            Holding::Points(_) => unreachable!(),
         }
     }
 
-    fn give(&mut self, piece: &Piece) -> Result<(), GiveError> {
+    /// Gives a piece away.
+    pub(crate) fn give(&mut self, piece: &Piece)
+        requires { holdings.MayGive self.old piece.now }
+        ensures { holdings.Given self.old piece.now self.new }
+    {
         match self {
             Holding::Count(escrow) => match *piece {
-                Piece::Count(n) => escrow.give(&n),
+                Piece::Count(n) => give_count(escrow, n),
                 _ => unreachable!(),
             },
             Holding::Shares(held) => match *piece {
-                Piece::Shares { shares, mode } => held.give(&in_mode(shares, mode)),
+                Piece::Shares { shares, mode } => give_shares(held, in_mode(shares, mode)),
+                _ => unreachable!(),
+            },
+            Holding::Points(points) => match *piece {
+                Piece::Points(span) => points.take_points(&span),
                 _ => unreachable!(),
             },
         }
     }
 
-    fn accept(&mut self, piece: &Piece) -> Result<(), NoMemory> {
+    /// Accepts a piece that another replica gave.
+    pub(crate) fn accept(&mut self, piece: &Piece)
+        requires { holdings.MayAccept self.old piece.now }
+        ensures { holdings.Accepted self.old piece.now self.new }
+    {
         match self {
             Holding::Count(escrow) => match *piece {
-                Piece::Count(n) => escrow.accept(&n),
+                Piece::Count(n) => accept_count(escrow, n),
                 _ => unreachable!(),
             },
             Holding::Shares(held) => match *piece {
-                Piece::Shares { shares, mode } => held.accept(&in_mode(shares, mode)),
+                Piece::Shares { shares, mode } => accept_shares(held, in_mode(shares, mode)),
+                _ => unreachable!(),
+            },
+            Holding::Points(points) => match *piece {
+                Piece::Points(span) => points.put_points(&span),
                 _ => unreachable!(),
             },
         }
     }
 
-    fn spend(&mut self, ask: &WantAsk) {
+    /// Does with it what was asked, which it permits.
+    pub(crate) fn spend(&mut self, ask: &WantAsk)
+        requires { holdings.permits self.old ask.now ≡ true }
+        ensures { self.new ≡ holdings.spent self.old ask.now }
+    {
         match self {
             Holding::Count(escrow) => match *ask {
                 WantAsk::Count(n) => escrow.spend(&n),
-                _ => {}
+                _ => unreachable!(),
             },
             Holding::Shares(shares) => match *ask {
                 WantAsk::Level(level) => shares.spend(&level),
-                _ => {}
+                _ => unreachable!(),
             },
+            Holding::Points(_) => unreachable!(),
         }
     }
 }

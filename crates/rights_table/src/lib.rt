@@ -18,6 +18,7 @@ mod table;
 mod taking;
 mod told;
 
+pub use first::points_all;
 pub use holding::Holding;
 pub use laws::{tables_learn, tables_tell};
 pub use overlay::Overlay;

@@ -5,7 +5,7 @@ ghost use Rattle.spec_model.specs.declared.log.Body.TheVariants as body;
 ghost use Rattle.spec_model.specs.declared.log.LogItem.{LogItem as LogItemOf};
 ghost use Rattle.spec_model.specs.declared.right.Right.{Right as RightOf};
 ghost use Rattle.run_model.specs.Allowed.{IsHeldPiece, span_given};
-ghost use Rattle.run_model.specs.Fitting.{NeedFits, RightFits, SetupFits};
+ghost use Rattle.run_model.specs.Fitting.{NeedFits, PieceFits, RightFits, SetupFits};
 ghost use Rattle.run_model.specs.Holding.{held_of, held_right};
 ghost use Rattle.run_model.specs.Logs.{Logs as AllLogs, item_at};
 ghost use Rattle.run_model.specs.Passing as passing;
@@ -39,7 +39,7 @@ impl Overlay<'_> {
         Overlay {
             touched: Table {
                 me: table.me,
-                replicas: setup.replicas,
+                replicas: table.replicas,
                 entries: Vec::new(alloc),
             },
             under: table,
@@ -49,7 +49,6 @@ impl Overlay<'_> {
     /// Touches a right, for which room is made. All that is told stays.
     pub fn touch(&mut self, setup: &Setup, right: &Right) -> Result<(), NoMemory>
         requires setup { SetupFits setup.now }
-        requires partless { setup.now.plan.parts ≡ [] }
         requires right { RightFits setup.now right.now }
         requires is { (logs : AllLogs) × (me : ℕ) × (own : Sequence LogItemOf) × IsOverlay setup.now logs me own self.old }
         ensures same { (logs : AllLogs) (me : ℕ) (own : Sequence LogItemOf) → IsOverlay setup.now logs me own self.old → IsOverlay setup.now logs me own self.new }
@@ -62,7 +61,6 @@ impl Overlay<'_> {
     /// What would be held of a need's right.
     pub fn held(&self, setup: &Setup, need: &Need) -> Held
         requires setup { SetupFits setup.now }
-        requires partless { setup.now.plan.parts ≡ [] }
         requires need { NeedFits setup.now need.now }
         requires is { (logs : AllLogs) × (me : ℕ) × (own : Sequence LogItemOf) × IsOverlay setup.now logs me own self.now }
         ensures { (logs : AllLogs) (me : ℕ) (own : Sequence LogItemOf) → IsOverlay setup.now logs me own self.now → result ≡ held_of setup.now logs me own need.now }
@@ -77,7 +75,6 @@ impl Overlay<'_> {
     /// Whether a piece of a right could be accepted.
     pub fn can_accept(&self, setup: &Setup, right: &Right, piece: &Piece) -> bool
         requires setup { SetupFits setup.now }
-        requires partless { setup.now.plan.parts ≡ [] }
         requires right { RightFits setup.now right.now }
         requires is { (logs : AllLogs) × (me : ℕ) × (own : Sequence LogItemOf) × IsOverlay setup.now logs me own self.now }
         ensures { (logs : AllLogs) (me : ℕ) (own : Sequence LogItemOf) → IsOverlay setup.now logs me own self.now → result ≡ passing.can_accept setup.now.replicas (held_right setup.now logs me own right.now (span_given piece.now)) piece.now }
@@ -92,8 +89,8 @@ impl Overlay<'_> {
     /// Accepts a piece of a touched right that another replica gave.
     pub fn accept(&mut self, setup: &Setup, right: &Right, piece: &Piece)
         requires setup { SetupFits setup.now }
-        requires partless { setup.now.plan.parts ≡ [] }
         requires right { RightFits setup.now right.now }
+        requires piece { PieceFits setup.now right.now piece.now }
         requires touched { IsTouched self.old right.now }
         requires joins { (logs : AllLogs) × (me : ℕ) × (own : Sequence LogItemOf) × IsOverlay setup.now logs me own self.old × (passing.can_accept setup.now.replicas (held_right setup.now logs me own right.now (span_given piece.now)) piece.now ≡ true) }
         ensures accepted { (logs : AllLogs) (me : ℕ) (own : Sequence LogItemOf) (x out : LogItemOf) (from at to : ℕ) → x.body ≡ body.Accept from at → item_at logs from at ≡ Some out → out.body ≡ body.Out to right.now piece.now → IsOverlay setup.now logs me own self.old → IsOverlay setup.now logs me (own ++ x ∷ []) self.new }
@@ -106,7 +103,6 @@ impl Overlay<'_> {
     /// Gives a piece of a touched right away.
     pub fn give(&mut self, setup: &Setup, right: &Right, piece: &Piece)
         requires setup { SetupFits setup.now }
-        requires partless { setup.now.plan.parts ≡ [] }
         requires right { RightFits setup.now right.now }
         requires touched { IsTouched self.old right.now }
         requires held { (logs : AllLogs) × (me : ℕ) × (own : Sequence LogItemOf) × IsOverlay setup.now logs me own self.old × IsHeldPiece (held_right setup.now logs me own right.now (span_given piece.now)) piece.now }

@@ -3,7 +3,8 @@
 ghost use Rattle.std.specs.Prelude.{◌≡◌, ◌<◌, ◌^◌, [], ◌∷◌, ◌++◌, ℕ, Some, true, List as Sequence, OnOk};
 ghost use Rattle.std.specs.List.{AllByRecursion};
 ghost use Rattle.spec_model.specs.declared.log.LogItem.{LogItem as LogItemOf};
-ghost use Rattle.run_model.specs.Fitting.{BodyFits, NeedFits, SetupFits};
+ghost use Rattle.run_model.specs.Fitting.{BodyFits, NeedFits, PieceFits, SetupFits};
+ghost use Rattle.spec_model.specs.Fits.{IsWellFormed};
 ghost use Rattle.run_model.specs.Allowed.{span_given};
 ghost use Rattle.run_model.specs.Logs.{Logs as AllLogs, item_at};
 ghost use Rattle.run_model.specs.Passing.{can_accept};
@@ -36,7 +37,6 @@ impl Table {
         needs: &[Need],
     ) -> Result<(), NoMemory>
         requires setup { SetupFits setup.now }
-        requires partless { setup.now.plan.parts ≡ [] }
         requires replicas { replicas_of self.old ≡ setup.now.replicas }
         requires items { AllByRecursion (λ item. BodyFits setup.now item.body) items.now }
         requires needs { AllByRecursion (NeedFits setup.now) needs.now }
@@ -53,7 +53,8 @@ impl Table {
     fn accept_of(&mut self, setup: &Setup, out: &Body)
         requires replicas { replicas_of self.old ≡ setup.now.replicas }
         requires entered { (to : ℕ) (r : RightOf) (piece : PieceOf) → out.now ≡ body_of.Out to r piece → IsEntered self.old r }
-        requires joins { (to : ℕ) × (r : RightOf) × (piece : PieceOf) × (out.now ≡ body_of.Out to r piece) × (can_accept setup.now.replicas (held_in setup.now self.old r (span_given piece)) piece ≡ true) }
+        requires well_formed { IsWellFormed setup.now.spec }
+        requires joins { (to : ℕ) × (r : RightOf) × (piece : PieceOf) × (out.now ≡ body_of.Out to r piece) × PieceFits setup.now r piece × (can_accept setup.now.replicas (held_in setup.now self.old r (span_given piece)) piece ≡ true) }
         ensures accepted { (logs : AllLogs) (me : ℕ) (own : Sequence LogItemOf) (x item : LogItemOf) (from at : ℕ) → x.body ≡ body_of.Accept from at → item_at logs from at ≡ Some item → item.body ≡ out.now → IsTable setup.now logs me own (λ r. true) self.old → IsTable setup.now logs me (own ++ x ∷ []) (λ r. true) self.new }
         ensures kept { KeepsEntries self.old self.new }
     {
@@ -67,7 +68,6 @@ impl Table {
     /// that an Accept takes, and `needs` are those of an act.
     pub fn own(&mut self, setup: &Setup, body: &Body, of: Option<Body>, needs: &[Need])
         requires setup { SetupFits setup.now }
-        requires partless { setup.now.plan.parts ≡ [] }
         requires ready { HasEntryFor setup.now body.now of needs.now self.old }
         requires may { (logs : AllLogs) × (me : ℕ) × (own : Sequence LogItemOf) × (x : LogItemOf) × (x.body ≡ body.now) × HasAll setup.now logs me own self.old × MayOwn setup.now logs me own x of needs.now }
         ensures owned { (logs : AllLogs) (me : ℕ) (own : Sequence LogItemOf) (x : LogItemOf) → x.body ≡ body.now → HasAll setup.now logs me own self.old → MayOwn setup.now logs me own x of needs.now → HasAll setup.now logs me (own ++ x ∷ []) self.new }

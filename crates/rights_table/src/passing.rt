@@ -1,17 +1,18 @@
 //! Pieces that a replica gives and accepts.
 
-ghost use Rattle.std.specs.Prelude.{◌≡◌, ◌<◌, ◌+◌, ◌^◌, nat_le, ◌++◌, ◌∷◌, [], ℕ, Bool, true, false, Some, List as Sequence};
+ghost use Rattle.std.specs.Prelude.{◌≡◌, ◌<◌, ◌+◌, ◌^◌, nat_le, ◌++◌, ◌∷◌, [], ℕ, Bool, true, Some, List as Sequence};
 ghost use Rattle.spec_model.specs.Fits.{IsWellFormed};
 ghost use Rattle.spec_model.specs.declared.log.Body.TheVariants as body;
 ghost use Rattle.spec_model.specs.declared.log.LogItem.{LogItem as LogItemOf};
 ghost use Rattle.spec_model.specs.declared.right.Right.{Right as RightOf};
-ghost use Rattle.run_model.specs.Allowed.{IsHeldPiece, span_given};
+ghost use Rattle.run_model.specs.Allowed as allowed;
+ghost use Rattle.run_model.specs.Fitting.{PieceFits};
 ghost use Rattle.run_model.specs.Logs.{Logs as AllLogs, item_at};
-ghost use Rattle.rights_table.specs.Parts.{is_part};
 ghost use Rattle.run_model.specs.Passing as passing;
 
 use crate::step::Step;
 use crate::table::Table;
+use ind_base::Span;
 use spec_model::{Held, Mode, Piece, Right, Setup};
 
 fn same_mode(a: Mode, b: Mode) -> bool
@@ -55,6 +56,16 @@ fn joins(all: u32, held: &Held, piece: &Piece) -> bool
     }
 }
 
+/// The points of a piece.
+fn span_given(piece: &Piece) -> Span
+    ensures { result ≡ allowed.span_given piece.now }
+{
+    match piece {
+        Piece::Points(span) => *span,
+        _ => Span { lo: 1, hi: 0 },
+    }
+}
+
 impl Table {
     ghost use Rattle.rights_table.specs.Tables.{IsEntered, IsTable, KeepsEntries, held_in, replicas_of};
 
@@ -63,16 +74,16 @@ impl Table {
         requires well_formed { IsWellFormed setup.now.spec }
         requires some { 0 < setup.now.replicas }
         requires replicas { replicas_of self.now ≡ setup.now.replicas }
-        requires whole { is_part right.now ≡ false }
-        ensures { result ≡ passing.can_accept setup.now.replicas (held_in setup.now self.now right.now (span_given piece.now)) piece.now }
+        ensures { result ≡ passing.can_accept setup.now.replicas (held_in setup.now self.now right.now (allowed.span_given piece.now)) piece.now }
     {
-        joins(setup.replicas, &self.held_of(setup, right), piece)
+        let held = self.held_of(setup, right, &span_given(piece));
+        joins(setup.replicas, &held, piece)
     }
 
     /// Gives a piece away that is held: what is held with an Out of it more in the own log.
     pub fn give(&mut self, setup: &Setup, right: &Right, piece: &Piece)
         requires entered { IsEntered self.old right.now }
-        requires held { IsHeldPiece (held_in setup.now self.old right.now (span_given piece.now)) piece.now }
+        requires held { allowed.IsHeldPiece (held_in setup.now self.old right.now (allowed.span_given piece.now)) piece.now }
         ensures out { (logs : AllLogs) (me : ℕ) (own : Sequence LogItemOf) (among : RightOf → Bool) (x : LogItemOf) (to : ℕ) → x.body ≡ body.Out to right.now piece.now → IsTable setup.now logs me own among self.old → IsTable setup.now logs me (own ++ x ∷ []) among self.new }
         ensures kept { KeepsEntries self.old self.new }
         ensures no_more { KeepsEntries self.new self.old }
@@ -84,8 +95,10 @@ impl Table {
     /// log.
     pub fn accept(&mut self, setup: &Setup, right: &Right, piece: &Piece)
         requires entered { IsEntered self.old right.now }
+        requires well_formed { IsWellFormed setup.now.spec }
         requires replicas { replicas_of self.old ≡ setup.now.replicas }
-        requires joins { passing.can_accept setup.now.replicas (held_in setup.now self.old right.now (span_given piece.now)) piece.now ≡ true }
+        requires piece { PieceFits setup.now right.now piece.now }
+        requires joins { passing.can_accept setup.now.replicas (held_in setup.now self.old right.now (allowed.span_given piece.now)) piece.now ≡ true }
         ensures accepted { (logs : AllLogs) (me : ℕ) (own : Sequence LogItemOf) (among : RightOf → Bool) (x out : LogItemOf) (from at to : ℕ) → x.body ≡ body.Accept from at → item_at logs from at ≡ Some out → out.body ≡ body.Out to right.now piece.now → IsTable setup.now logs me own among self.old → IsTable setup.now logs me (own ++ x ∷ []) among self.new }
         ensures kept { KeepsEntries self.old self.new }
         ensures no_more { KeepsEntries self.new self.old }

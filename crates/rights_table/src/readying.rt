@@ -16,7 +16,6 @@ use spec_model::{Amount, Body, Cell, Inst, Line, LogItem, Need, Right, Setup};
 
 impl Table {
     ghost use Rattle.rights_table.specs.Cells.{line_moves};
-    ghost use Rattle.rights_table.specs.Parts.{is_part};
     ghost use Rattle.rights_table.specs.Tables.{replicas_of};
     ghost use Rattle.rights_table.specs.Touched.{MakesRoom, body_touches, cell_touches, item_touches, literal_touches, need_touches};
 
@@ -24,7 +23,6 @@ impl Table {
     fn ready_right(&mut self, setup: &Setup, right: &Right) -> Result<(), NoMemory>
         requires setup { SetupFits setup.now }
         requires replicas { replicas_of self.old ≡ setup.now.replicas }
-        requires whole { is_part right.now ≡ false }
         ensures { MakesRoom setup.now (is_ok result) (same_right right.now) self.old self.new }
     {
         self.make_room(setup, right)
@@ -98,7 +96,6 @@ impl Table {
     /// Makes room for what a body touches, of an item of the own log or of another.
     fn ready_body(&mut self, setup: &Setup, mine: bool, body: &Body) -> Result<(), NoMemory>
         requires setup { SetupFits setup.now }
-        requires partless { setup.now.plan.parts ≡ [] }
         requires replicas { replicas_of self.old ≡ setup.now.replicas }
         requires body { BodyFits setup.now body.now }
         ensures { MakesRoom setup.now (is_ok result) (body_touches setup.now.spec mine body.now) self.old self.new }
@@ -119,7 +116,6 @@ impl Table {
     /// Makes room for what an item touches, by whose table it is.
     fn ready_item(&mut self, setup: &Setup, me: u32, item: &LogItem) -> Result<(), NoMemory>
         requires setup { SetupFits setup.now }
-        requires partless { setup.now.plan.parts ≡ [] }
         requires replicas { replicas_of self.old ≡ setup.now.replicas }
         requires item { BodyFits setup.now item.now.body }
         ensures { MakesRoom setup.now (is_ok result) (λ r. item_touches setup.now.spec me r item.now) self.old self.new }
@@ -130,7 +126,6 @@ impl Table {
     /// Makes room for what items touch.
     pub(crate) fn ready_items(&mut self, setup: &Setup, items: &[LogItem]) -> Result<(), NoMemory>
         requires setup { SetupFits setup.now }
-        requires partless { setup.now.plan.parts ≡ [] }
         requires replicas { replicas_of self.old ≡ setup.now.replicas }
         requires items { AllByRecursion (λ item. BodyFits setup.now item.body) items.now }
         ensures { MakesRoom setup.now (is_ok result) (λ r. list_any (item_touches setup.now.spec self.old.me r) items.now) self.old self.new }
@@ -146,7 +141,6 @@ impl Table {
     fn ready_literal(&mut self, setup: &Setup, right: &Right, literal: u32) -> Result<(), NoMemory>
         requires setup { SetupFits setup.now }
         requires replicas { replicas_of self.old ≡ setup.now.replicas }
-        requires whole { is_part right.now ≡ false }
         ensures { MakesRoom setup.now (is_ok result) (λ r. literal_touches right.now r literal) self.old self.new }
     {
         self.ready_right(setup, &at_literal(right, literal))
@@ -161,7 +155,6 @@ impl Table {
     ) -> Result<(), NoMemory>
         requires setup { SetupFits setup.now }
         requires replicas { replicas_of self.old ≡ setup.now.replicas }
-        requires whole { is_part right.now ≡ false }
         ensures { MakesRoom setup.now (is_ok result) (λ r. list_any (literal_touches right.now r) literals.now) self.old self.new }
     {
         for literal in literals {
@@ -174,7 +167,6 @@ impl Table {
     fn ready_need(&mut self, setup: &Setup, need: &Need) -> Result<(), NoMemory>
         requires setup { SetupFits setup.now }
         requires replicas { replicas_of self.old ≡ setup.now.replicas }
-        requires whole { is_part need.now.right ≡ false }
         ensures { MakesRoom setup.now (is_ok result) (λ r. need_touches r need.now) self.old self.new }
     {
         match &need.amount {
@@ -188,7 +180,6 @@ impl Table {
     /// Makes room for what needs may be met by.
     pub(crate) fn ready_needs(&mut self, setup: &Setup, needs: &[Need]) -> Result<(), NoMemory>
         requires setup { SetupFits setup.now }
-        requires partless { setup.now.plan.parts ≡ [] }
         requires replicas { replicas_of self.old ≡ setup.now.replicas }
         requires needs { AllByRecursion (NeedFits setup.now) needs.now }
         ensures { MakesRoom setup.now (is_ok result) (λ r. list_any (need_touches r) needs.now) self.old self.new }

@@ -1,20 +1,26 @@
 //! What a replica shows of its rights at the end.
 
-ghost use Rattle.std.specs.Prelude.{◌≡◌, ◌<◌, ◌++◌, [], ℕ, List as Sequence, IfOk, OnOk};
-ghost use Rattle.std.specs.List.{AllByRecursion, flat_map};
+ghost use Rattle.std.specs.Prelude.{◌≡◌, ◌<◌, ◌++◌, [], ℕ, List as Sequence, ◌↔◌, IfOk, OnOk, IsTrue, filter};
+ghost use Rattle.std.specs.List.{flat_map};
 ghost use Rattle.std.specs.Option.{option_to_list};
 ghost use Rattle.spec_model.specs.AllRights.{rights_of};
 ghost use Rattle.spec_model.specs.Fits.{IsWellFormed};
 ghost use Rattle.spec_model.specs.declared.log.LogItem.{LogItem as LogItemOf};
+ghost use Rattle.spec_model.specs.Universe.{below};
+ghost use Rattle.spec_model.specs.declared.right.Right.TheVariants as right_of;
 ghost use Rattle.run_model.specs.Finals as finals;
+ghost use Rattle.run_model.specs.Points.{points_all, starts_with};
+ghost use Rattle.partition_locks.specs.Held.{holds};
 ghost use Rattle.run_model.specs.Fitting.{SetupFits};
 ghost use Rattle.run_model.specs.Logs.{Logs as AllLogs};
-ghost use Rattle.rights_table.specs.Parts.{IsWhole};
 ghost use Rattle.rights_table.specs.Showing.{held_shown};
 
+use crate::first::{first_run, points_all as all_points};
+use crate::holding::Holding;
 use crate::table::Table;
 use effect_model::all_rights;
-use ind_base::{List, NoMemory};
+use ind_base::{List, NoMemory, Span};
+use partition_locks::Points;
 use run_model::Hold;
 use spec_model::{Held, Mode, Right, Setup};
 use std::alloc::Global;
@@ -53,6 +59,39 @@ fn hold_of(right: &Right, held: &Held) -> Option<Hold>
     }
 }
 
+/// Whether these runs are just the one, or none.
+fn are_run(runs: &[Span], run: Option<Span>) -> bool
+    ensures { IsTrue result ↔ (runs.now ≡ option_to_list run) }
+{
+    match run {
+        Some(run) => runs.len() == 1 && runs[0] == run,
+        None => runs.is_empty(),
+    }
+}
+
+/// What is shown of points, where they aren't those of the start.
+fn show_points(
+    alloc: Global,
+    setup: &Setup,
+    me: u32,
+    right: &Right,
+    part: u32,
+    points: &Points,
+) -> Result<Option<Hold>, NoMemory>
+    requires well_formed { IsWellFormed setup.now.spec }
+    requires mine { me < setup.now.replicas }
+    ensures { IfOk result (λ hold. option_to_list hold ≡ finals.points_shown right.now (filter (starts_with (points_all setup.now part) setup.now.replicas me) (below (points_all setup.now part))) (filter (holds points.now) (below (points_all setup.now part)))) }
+{
+    let runs = points.runs_below(alloc, all_points(setup, part))?;
+    if are_run(runs.as_slice(), first_run(setup, me, part)) {
+        return Ok(None);
+    }
+    Ok(Some(Hold::Points {
+        right: *right,
+        spans: runs,
+    }))
+}
+
 /// Puts a hold at the end, if there is one.
 fn push_hold(hold: Option<Hold>, out: &mut List<Hold>) -> Result<(), NoMemory>
     ensures { OnOk result (out.new ≡ out.old ++ option_to_list hold) }
@@ -68,9 +107,45 @@ impl Table {
     ghost use Rattle.rights_table.specs.Tables.{replicas_of};
     ghost use Rattle.rights_table.specs.Whole.{HasAll};
 
+    /// What is shown of the points of a partition, where they aren't those of the start.
+    fn show_part(
+        &self,
+        alloc: Global,
+        setup: &Setup,
+        right: &Right,
+        part: u32,
+    ) -> Result<Option<Hold>, NoMemory>
+        requires well_formed { IsWellFormed setup.now.spec }
+        requires replicas { replicas_of self.now ≡ setup.now.replicas }
+        requires of { (key : Sequence ℕ) × (right.now ≡ right_of.Part part key) }
+        ensures { IfOk result (λ hold. option_to_list hold ≡ shown_in setup.now self.now right.now) }
+    {
+        match self.place(right) {
+            Some(at) => match &self.entries[at].holding {
+                Holding::Points(points) => show_points(alloc, setup, self.me, right, part, points),
+                _ => unreachable!(),
+            },
+            None => Ok(None),
+        }
+    }
+
+    /// What is shown of a right, where anything is.
+    fn show(&self, alloc: Global, setup: &Setup, right: &Right) -> Result<Option<Hold>, NoMemory>
+        requires well_formed { IsWellFormed setup.now.spec }
+        requires some { 0 < setup.now.replicas }
+        requires replicas { replicas_of self.now ≡ setup.now.replicas }
+        ensures { IfOk result (λ hold. option_to_list hold ≡ shown_in setup.now self.now right.now) }
+    {
+        match right {
+            Right::Part { part, .. } => self.show_part(alloc, setup, right, *part),
+            _ => Ok(hold_of(right, &self.held_of(setup, right, &Span { lo: 1, hi: 0 }))),
+        }
+    }
+
     /// Puts what is shown of these rights at the end.
     fn show_all(
         &self,
+        alloc: Global,
         setup: &Setup,
         rights: &[Right],
         out: &mut List<Hold>,
@@ -78,11 +153,10 @@ impl Table {
         requires well_formed { IsWellFormed setup.now.spec }
         requires some { 0 < setup.now.replicas }
         requires replicas { replicas_of self.now ≡ setup.now.replicas }
-        requires whole { AllByRecursion IsWhole rights.now }
         ensures { OnOk result (out.new ≡ out.old ++ flat_map (shown_in setup.now self.now) rights.now) }
     {
         for right in rights {
-            push_hold(hold_of(right, &self.held_of(setup, right)), out)?;
+            push_hold(self.show(alloc, setup, right)?, out)?;
         }
         Ok(())
     }
@@ -90,13 +164,12 @@ impl Table {
     /// What is held of all rights, in their order; of each only what the trace shows of it.
     pub fn holds(&self, alloc: Global, setup: &Setup) -> Result<List<Hold>, NoMemory>
         requires setup { SetupFits setup.now }
-        requires partless { setup.now.plan.parts ≡ [] }
         requires replicas { replicas_of self.now ≡ setup.now.replicas }
         ensures { IfOk result (λ all. (logs : AllLogs) (me : ℕ) (own : Sequence LogItemOf) → HasAll setup.now logs me own self.now → all ≡ flat_map (finals.shown setup.now logs me own) (rights_of setup.now)) }
     {
         let rights = all_rights(alloc, setup)?;
         let mut out = List::new(alloc);
-        self.show_all(setup, rights.as_slice(), &mut out)?;
+        self.show_all(alloc, setup, rights.as_slice(), &mut out)?;
         Ok(out)
     }
 }

@@ -1,7 +1,6 @@
 //! What is done with a holding.
 
 use crate::holding::Holding;
-use ind_base::RightKind;
 use spec_model::{Piece, WantAsk};
 
 /// A step with the holding of a right.
@@ -26,14 +25,8 @@ impl Holding {
         ensures kind { (all : ℕ) (r : Right) → is_of all r self.old ≡ true → is_of all r self.new ≡ true }
     {
         match *step {
-            Step::Give(piece) => match self.give(&piece) {
-                Ok(()) => {}
-                Err(_) => unreachable!(),
-            },
-            Step::Accept(piece) => match self.accept(&piece) {
-                Ok(()) => {}
-                Err(_) => unreachable!(),
-            },
+            Step::Give(piece) => self.give(&piece),
+            Step::Accept(piece) => self.accept(&piece),
             Step::Spend(ask) => self.spend(&ask),
             Step::Create(n) => self.create(n),
         }

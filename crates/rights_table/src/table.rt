@@ -18,6 +18,7 @@ pub struct Table {
     pub(crate) replicas: u32,
     pub(crate) entries: Vec<Entry>,
     ghost kinds: { are_of_kind replicas entries.items ≡ true },
+    ghost mine: { me < replicas },
 }
 
 impl Table {
@@ -26,12 +27,12 @@ impl Table {
     ghost use Rattle.spec_model.specs.Fits.{IsWellFormed};
     ghost use Rattle.rights_table.specs.declared.holding.Holding.{Holding as HoldingOf};
     ghost use Rattle.rights_table.specs.Steps as steps;
-    ghost use Rattle.rights_table.specs.Parts.{is_part};
     ghost use Rattle.rights_table.specs.Tables.{Becomes, IsEntered, IsTable, KeepsEntries, TellTheSame, entered, replicas_of};
     ghost use Rattle.rights_table.specs.Entries.{IsPlace, entry_of};
 
     /// The table of a replica that has logged nothing. It takes no memory.
     pub fn begin(alloc: Global, setup: &Setup, me: u32) -> Table
+        requires { me < setup.now.replicas }
         ensures { (logs : AllLogs) (among : RightOf → Bool) → IsTable setup.now logs me [] among result }
     {
         Table {
@@ -60,7 +61,6 @@ impl Table {
         requires well_formed { IsWellFormed setup.now.spec }
         requires some { 0 < setup.now.replicas }
         requires replicas { replicas_of self.old ≡ setup.now.replicas }
-        requires whole { is_part right.now ≡ false }
         ensures same { TellTheSame setup.now self.old self.new }
         ensures entered { OnOk result (IsEntered self.new right.now) }
         ensures kept { KeepsEntries self.old self.new }
@@ -69,7 +69,8 @@ impl Table {
             Some(_) => return Ok(()),
             None => {}
         }
-        let holding = first_holding(setup, self.me, right);
+        let alloc = *self.entries.allocator();
+        let holding = first_holding(alloc, setup, self.me, right)?;
         self.entries.push(Entry {
             right: *right,
             holding,

@@ -1,7 +1,6 @@
 //! Holdings that a table takes over from another.
 
-ghost use Rattle.std.specs.Prelude.{◌≡◌, ◌<◌, true, false, is_some, OnOk};
-ghost use Rattle.rights_table.specs.Holdings as holdings;
+ghost use Rattle.std.specs.Prelude.{◌≡◌, ◌<◌, true, false, is_some, IfOk, OnOk};
 
 use crate::entry::Entry;
 use crate::first::first_holding;
@@ -9,11 +8,11 @@ use crate::holding::Holding;
 use crate::table::Table;
 use ind_base::NoMemory;
 use spec_model::{Right, Setup};
+use std::alloc::Global;
 
 impl Table {
     ghost use Rattle.spec_model.specs.Fits.{IsWellFormed};
-    ghost use Rattle.rights_table.specs.Parts.{is_part};
-    ghost use Rattle.rights_table.specs.Tables.{IsEntered, TakesOver, count_in, entered, mode_in, replicas_of};
+    ghost use Rattle.rights_table.specs.Tables.{IsEntered, IsHeldBy, TakesOver, entered, replicas_of};
 
     /// Whether a right has an entry.
     pub(crate) fn has(&self, right: &Right) -> bool
@@ -25,19 +24,16 @@ impl Table {
         }
     }
 
-    /// The holding of a right.
-    fn holding(&self, setup: &Setup, right: &Right) -> Holding
+    /// The holding of a right, in a value of its own.
+    fn holding(&self, alloc: Global, setup: &Setup, right: &Right) -> Result<Holding, NoMemory>
         requires well_formed { IsWellFormed setup.now.spec }
         requires some { 0 < setup.now.replicas }
         requires replicas { replicas_of self.now ≡ setup.now.replicas }
-        requires whole { is_part right.now ≡ false }
-        ensures count { holdings.count_of result ≡ count_in setup.now self.now right.now }
-        ensures mode { holdings.mode_of result ≡ mode_in self.now right.now }
-        ensures kind { holdings.is_of setup.now.replicas right.now result ≡ true }
+        ensures { IfOk result (IsHeldBy setup.now self.now right.now) }
     {
         match self.place(right) {
-            Some(at) => self.entries[at].holding,
-            None => first_holding(setup, self.me, right),
+            Some(at) => self.entries[at].holding.copy(alloc),
+            None => first_holding(alloc, setup, self.me, right),
         }
     }
 
@@ -52,7 +48,6 @@ impl Table {
         requires some { 0 < setup.now.replicas }
         requires replicas { replicas_of self.old ≡ setup.now.replicas }
         requires from { replicas_of from.now ≡ setup.now.replicas }
-        requires whole { is_part right.now ≡ false }
         ensures over { TakesOver setup.now from.now self.old self.new }
         ensures entered { OnOk result (IsEntered self.new right.now) }
     {
@@ -60,7 +55,8 @@ impl Table {
             Some(_) => return Ok(()),
             None => {}
         }
-        let holding = from.holding(setup, right);
+        let alloc = *self.entries.allocator();
+        let holding = from.holding(alloc, setup, right)?;
         self.entries.push(Entry {
             right: *right,
             holding,

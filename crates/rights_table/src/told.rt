@@ -1,15 +1,16 @@
 //! What a table tells, and which needs it meets.
 
-ghost use Rattle.std.specs.Prelude.{◌≡◌, ◌<◌, false, map, IfSome, IfNone, None, Some};
-ghost use Rattle.std.specs.List.{AllByRecursion, list_any};
+ghost use Rattle.std.specs.Prelude.{◌≡◌, ◌<◌, map, IfSome, IfNone, None, Some};
+ghost use Rattle.std.specs.List.{list_any};
 ghost use Rattle.std.specs.Option.{option_copied, option_map};
 ghost use Rattle.spec_model.specs.Fits.{IsWellFormed};
+ghost use Rattle.run_model.specs.Holding as holding;
 ghost use Rattle.run_model.specs.Levels as levels;
-ghost use Rattle.rights_table.specs.Parts.{is_part, SpeaksOfNone};
 ghost use Rattle.rights_table.specs.Lacks.{lacking_of};
 
-use crate::first::first_holding;
+use crate::first::first_told;
 use crate::table::Table;
+use ind_base::Span;
 use multilevel_locks::mode_permits;
 use spec_model::{Amount, Held, Level, Need, Right, Setup};
 
@@ -24,6 +25,16 @@ fn permits(all: u32, held: &Held, amount: &Amount) -> bool
         }
         (Held::Points { missing, .. }, Amount::Points(_)) => missing.is_none(),
         _ => false,
+    }
+}
+
+/// The points of an amount.
+fn span_in(amount: &Amount) -> Span
+    ensures { result ≡ holding.span_in amount.now }
+{
+    match amount {
+        Amount::Points(span) => *span,
+        _ => Span { lo: 1, hi: 0 },
     }
 }
 
@@ -43,24 +54,21 @@ pub(crate) fn at_literal(right: &Right, literal: u32) -> Right
 
 impl Table {
     ghost use Rattle.std.specs.Prelude.{List as Sequence};
-    ghost use Rattle.ind_base.specs.declared.span.Span.{Span as SpanOf};
     ghost use Rattle.spec_model.specs.declared.log.LogItem.{LogItem as LogItemOf};
     ghost use Rattle.spec_model.specs.declared.right.Right.{Right as RightOf};
     ghost use Rattle.run_model.specs.Logs.{Logs as AllLogs};
-    ghost use Rattle.run_model.specs.Holding as holding;
     ghost use Rattle.rights_table.specs.Tables.{IsTable, held_in, holding_in, replicas_of};
 
-    /// What is held of a right.
-    pub(crate) fn held_of(&self, setup: &Setup, right: &Right) -> Held
+    /// What is held of a right, of points those of a span.
+    pub(crate) fn held_of(&self, setup: &Setup, right: &Right, span: &Span) -> Held
         requires well_formed { IsWellFormed setup.now.spec }
         requires some { 0 < setup.now.replicas }
         requires replicas { replicas_of self.now ≡ setup.now.replicas }
-        requires whole { is_part right.now ≡ false }
-        ensures { (span : SpanOf) → result ≡ held_in setup.now self.now right.now span }
+        ensures { result ≡ held_in setup.now self.now right.now span.now }
     {
         match self.place(right) {
-            Some(at) => self.entries[at].holding.told(),
-            None => first_holding(setup, self.me, right).told(),
+            Some(at) => self.entries[at].holding.told(span),
+            None => first_told(setup, self.me, right, span),
         }
     }
 
@@ -69,10 +77,10 @@ impl Table {
         requires well_formed { IsWellFormed setup.now.spec }
         requires some { 0 < setup.now.replicas }
         requires replicas { replicas_of self.now ≡ setup.now.replicas }
-        requires whole { is_part right.now ≡ false }
         ensures { result ≡ levels.is_permitted setup.now.replicas (holding_in setup.now self.now) (record { right = right.now; amount = amount.now }) }
     {
-        permits(setup.replicas, &self.held_of(setup, right), amount)
+        let held = self.held_of(setup, right, &span_in(amount));
+        permits(setup.replicas, &held, amount)
     }
 
     /// Whether forbid is permitted on some of these literals of the right's instance.
@@ -80,7 +88,6 @@ impl Table {
         requires well_formed { IsWellFormed setup.now.spec }
         requires some { 0 < setup.now.replicas }
         requires replicas { replicas_of self.now ≡ setup.now.replicas }
-        requires whole { is_part right.now ≡ false }
         ensures { result ≡ list_any (levels.is_permitted setup.now.replicas (holding_in setup.now self.now)) (map (levels.forbid_at right.now) literals.now) }
     {
         for literal in literals {
@@ -97,7 +104,6 @@ impl Table {
         requires well_formed { IsWellFormed setup.now.spec }
         requires some { 0 < setup.now.replicas }
         requires replicas { replicas_of self.now ≡ setup.now.replicas }
-        requires whole { is_part need.now.right ≡ false }
         ensures { result ≡ levels.is_met setup.now.replicas (holding_in setup.now self.now) need.now }
     {
         match &need.amount {
@@ -111,10 +117,9 @@ impl Table {
         requires well_formed { IsWellFormed setup.now.spec }
         requires some { 0 < setup.now.replicas }
         requires replicas { replicas_of self.now ≡ setup.now.replicas }
-        requires whole { is_part need.now.right ≡ false }
         ensures { result ≡ holding_in setup.now self.now need.now }
     {
-        self.held_of(setup, &need.right)
+        self.held_of(setup, &need.right, &span_in(&need.amount))
     }
 
     /// The first need that isn't met; `None` where all are.
@@ -122,7 +127,6 @@ impl Table {
         requires well_formed { IsWellFormed setup.now.spec }
         requires some { 0 < setup.now.replicas }
         requires replicas { replicas_of self.now ≡ setup.now.replicas }
-        requires whole { AllByRecursion SpeaksOfNone needs.now }
         ensures { option_map (lacking_of (holding_in setup.now self.now)) (option_copied result) ≡ levels.first_lacking setup.now.replicas (holding_in setup.now self.now) needs.now }
     {
         for need in needs {

@@ -1,28 +1,18 @@
 -- What a document lacks where no line of it holds a word of a group.
-use Rattle.std.proofs.Common.{◌≡◌, ℕ, ◌+◌, ◌≤◌, Bool, true, false, cond, ◌||◌, eqb, List, [], ◌∷◌, ◌++◌, length, map, refl, sym, ap, subst, ◌∙◌, arith}
-use Rattle.std.specs.Prelude.{Result, Ok, Err, Some, None, codes, nat_le}
+use Rattle.std.proofs.Common.{◌≡◌, ℕ, ◌+◌, ◌≤◌, Bool, true, false, cond, eqb, List, [], ◌∷◌, length, refl, sym, subst, ◌∙◌, arith}
+use Rattle.std.specs.Prelude.{Result, Ok, Err, Some, None, nat_le}
 use Rattle.std.specs.List.{AllByRecursion, list_any}
 use Rattle.std.proofs.lemmas.Bool.{lt-leb}
 use Rattle.line_text.specs.declared.cause.Cause.{Cause}
 use Rattle.line_text.specs.declared.token.Token.{Token}
-use Rattle.line_text.specs.declared.token.Token.TheVariants.{Word, Mark}
 use Rattle.line_text.specs.Lines.{lines_of}
 use Rattle.line_text.specs.Texts.{line_tokens}
 use Rattle.line_text.specs.Bytes.{before_comment}
 use Rattle.line_text.specs.Words.{is_among, is_one_of, runs_of, run_before}
 use Rattle.line_text.proofs.Guards.{ok_same}
-use Rattle.line_text.proofs.Inverse.{listing_tokens, behind_tokens, flag_tokens}
 use Rattle.line_text.proofs.Again.{line_read}
 use Rattle.line_text.proofs.Runs.{IsNoNumber, runs_hold, run_found, runs_ended}
 use Rattle.line_text.proofs.Readings.{read_kept_with, read_taken}
-use Rattle.spec_model.specs.declared.spec.Sort.{Sort}
-use Rattle.spec_model.specs.declared.clause.Var.{Var}
-use Rattle.spec_model.specs.declared.operation.Op.{Op}
-use Rattle.spec_lines.specs.declared.item.NamedParam.{NamedParam}
-use Rattle.spec_lines.specs.declared.line.SpecLine.{SpecLine}
-use Rattle.spec_lines.specs.declared.line.SpecLine.TheVariants as spec_lines
-use Rattle.spec_lines.proofs.Shapes as shapes
-use Rattle.spec_lines.proofs.Back as spec_back
 use Rattle.scenario_lines.specs.declared.line.RunLine.{RunLine}
 use Rattle.scenario_lines.specs.declared.line.RunLine.TheVariants as run_lines
 use Rattle.scenario_lines.proofs.Shapes as run_shapes
@@ -30,10 +20,7 @@ use Rattle.scenario_lines.proofs.Back as run_back
 use Rattle.run_model.specs.declared.step.Ask.{Ask}
 use Rattle.run_model.specs.declared.step.Ask.TheVariants as asks
 use Rattle.run_model.specs.declared.step.Order.{Order}
-use Rattle.spec_language.specs.declared.draft.SpecDraft.{SpecDraft}
-use Rattle.spec_language.specs.Draft as spec_drafts
-use Rattle.spec_language.proofs.Taken as spec_takens
-use Rattle.spec_language.proofs.Limits.{all_one, last_keeps}
+use Rattle.spec_language.proofs.Limits.{all_one}
 use Rattle.scenario_text.specs.declared.document.Work.TheVariants as works
 use Rattle.scenario_text.specs.declared.document.Document.{Document}
 use Rattle.scenario_text.specs.declared.draft.Draft.{Draft}
@@ -50,20 +37,6 @@ use Rattle.scenario_text.proofs.Taken as takens
 
 abbrev Lacks : List (List ℕ) → List Token → Type 0
 Lacks words ts = list_any (is_among words) ts ≡ false
-
-or_false : (a b : Bool) → (a || b) ≡ false → (a ≡ false) × (b ≡ false)
-or_false true b e = absurd cc
-or_false false b e = (refl, e)
-
-lacks_behind : (words : List (List ℕ)) (front back : List Token) → Lacks words (front ++ back) → Lacks words back
-lacks_behind words [] back h = h
-lacks_behind words (t ∷ front) back h = lacks_behind words front back (or_false (is_among words t) (list_any (is_among words) (front ++ back)) h).1
-
-lacks_before : (words : List (List ℕ)) (front back : List Token) → Lacks words (front ++ back) → Lacks words front
-lacks_before words [] back h = refl
-lacks_before words (t ∷ front) back h =
-    let k = or_false (is_among words t) (list_any (is_among words) (front ++ back)) h in
-    rw (k.0) (lacks_before words front back k.1)
 
 abbrev HoldsNone : List (List ℕ) → List ℕ → Type 0
 HoldsNone words line = holds words line ≡ false
@@ -82,98 +55,38 @@ tokens_lack : (words : List (List ℕ)) (line : List ℕ) → HoldsNone words li
 unfolding holds
 tokens_lack words line none ts read = rw read at none
 
--- ---- what a line of the specification lacks
-
-plain_param : (interval : Bool) → Lacks unbuilt_words (flag_tokens interval (codes "interval")) → interval ≡ false
-plain_param true h = absurd cc
-plain_param false h = refl
-
-abbrev IsPlain : NamedParam → Type 0
-IsPlain p = p.interval ≡ false
-
-one_plain : (p : NamedParam) → Lacks unbuilt_words (shapes.param_tokens p) → IsPlain p
-one_plain p h = plain_param p.interval (lacks_behind unbuilt_words (Word p.name ∷ Mark 58 ∷ Word p.sort ∷ []) (flag_tokens p.interval (codes "interval")) h)
-
-params_behind : (ps : List NamedParam) → Lacks unbuilt_words (behind_tokens shapes.param_tokens ps) → AllByRecursion IsPlain ps
-params_behind [] h = tt
-params_behind (p ∷ ps) h =
-    let k = lacks_behind unbuilt_words (Mark 44 ∷ []) (shapes.param_tokens p ++ behind_tokens shapes.param_tokens ps) h in
-    (one_plain p (lacks_before unbuilt_words (shapes.param_tokens p) (behind_tokens shapes.param_tokens ps) k), params_behind ps (lacks_behind unbuilt_words (shapes.param_tokens p) (behind_tokens shapes.param_tokens ps) k))
-
-params_plain : (ps : List NamedParam) → Lacks unbuilt_words (listing_tokens shapes.param_tokens ps) → AllByRecursion IsPlain ps
-params_plain [] h = tt
-params_plain (p ∷ ps) h =
-    let k = lacks_behind unbuilt_words (Mark 40 ∷ []) (shapes.param_tokens p ++ behind_tokens shapes.param_tokens ps) h in
-    (one_plain p (lacks_before unbuilt_words (shapes.param_tokens p) (behind_tokens shapes.param_tokens ps) k), params_behind ps (lacks_behind unbuilt_words (shapes.param_tokens p) (behind_tokens shapes.param_tokens ps) k))
-
 -- ---- nothing of the first group
-
-abbrev HasNoInterval : Op → Type 0
-HasNoInterval op = AllByRecursion (λ p. p.interval ≡ false) op.params
 
 abbrev OrderStaysUp : Order → Type 0
 OrderStaysUp o = StaysUp o.ask
 
-abbrev SpecBuilt : SpecDraft → Type 0
-SpecBuilt d = AllByRecursion HasNoInterval d.spec.ops
-
-named_plain : (sorts : List Sort) (ps : List NamedParam) → AllByRecursion IsPlain ps → AllByRecursion (λ (p : Var). p.interval ≡ false) (map (spec_drafts.param_of sorts) ps)
-unfolding spec_drafts.param_of
-named_plain sorts [] h = tt
-named_plain sorts (p ∷ ps) h = (h.0, named_plain sorts ps h.1)
-
-effect_built : (d e : SpecDraft) (f : Op → Result Op Cause) → ((o p : Op) → f o ≡ Ok p → p.params ≡ o.params) → SpecBuilt d → spec_takens.EffectTaken d e f → SpecBuilt e
-effect_built d e f same h t =
-    let ops = last_keeps f HasNoInterval (λ o p is plain. subst (λ (vs : List Var). AllByRecursion (λ (v : Var). v.interval ≡ false) vs) (sym (same o p is)) plain) d.spec.ops t.ops t.last h in
-    subst SpecBuilt t.whole ops.0
-
-spec_built : (d e : SpecDraft) (line : SpecLine) → Lacks unbuilt_words (shapes.tokens_of_line line) → SpecBuilt d → spec_drafts.step d line ≡ Ok e → SpecBuilt e
-unfolding spec_drafts.step
-spec_built d e (spec_lines.Sort name size) lacks h is = subst SpecBuilt (spec_takens.sort_taken d e name size is).whole h
-spec_built d e (spec_lines.Pred name sorts rule first) lacks h is = subst SpecBuilt (spec_takens.pred_taken d e name sorts rule first is).whole h
-spec_built d e (spec_lines.Num name sorts init min max) lacks h is = subst SpecBuilt (spec_takens.num_taken d e name sorts init min max is).whole h
-spec_built d e (spec_lines.Clause vars premise conclusion mask) lacks h is = subst SpecBuilt (spec_takens.clause_taken d e vars premise conclusion mask is).literals.whole h
-spec_built d e (spec_lines.Op name params) lacks h is =
-    let t = spec_takens.op_taken d e name params is in
-    let plain = params_plain params (lacks_behind unbuilt_words (Word (codes "op") ∷ Word name ∷ []) (listing_tokens shapes.param_tokens params) lacks) in
-    subst SpecBuilt t.whole (all_one HasNoInterval d.spec.ops _ h (named_plain d.spec.sorts params plain))
-spec_built d e (spec_lines.Touch truth pred ts) lacks h is =
-    effect_built d e (spec_drafts.op_touch d.spec.preds truth pred ts) (λ o p q. sym (ap (λ (x : Op). x.params) (spec_takens.touched d.spec.preds truth pred ts o p q).whole)) h (spec_takens.touch_taken d e truth pred ts is)
-spec_built d e (spec_lines.Change raises amount num names) lacks h is =
-    effect_built d e (spec_drafts.op_change d.spec.nums raises amount num names) (λ o p q. sym (ap (λ (x : Op). x.params) (spec_takens.changed d.spec.nums raises amount num names o p q).whole)) h (spec_takens.change_taken d e raises amount num names is)
-spec_built d e (spec_lines.Free first second) lacks h is = subst SpecBuilt (spec_takens.free_taken d e first second is).whole h
-
 pub record Built (d : Draft) : Type 0 where
-  pub spec : SpecBuilt d.spec
   pub stops : d.stops ≡ []
   pub orders : AllByRecursion OrderStaysUp d.orders
 
 order_built : (d e : Draft) (replica : ℕ) (ask : Ask) → StaysUp ask → Built d → takens.OrderTaken d e replica ask → Built e
-order_built d e replica ask up h t = subst Built t.whole (record { spec = h.spec; stops = h.stops; orders = all_one OrderStaysUp d.orders _ h.orders up })
+order_built d e replica ask up h t = subst Built t.whole (record { stops = h.stops; orders = all_one OrderStaysUp d.orders _ h.orders up })
 
 run_built : (d e : Draft) (line : RunLine) → Lacks unbuilt_words (run_shapes.tokens_of_line line) → Built d → drafts.run_step d line ≡ Ok e → Built e
 unfolding drafts.run_step
-run_built d e (run_lines.Replicas n) lacks h is = subst Built (takens.replicas_taken d e n is).whole (record { spec = h.spec; stops = h.stops; orders = h.orders })
+run_built d e (run_lines.Replicas n) lacks h is = subst Built (takens.replicas_taken d e n is).whole (record { stops = h.stops; orders = h.orders })
 run_built d e (run_lines.Stop replica call keep fill) lacks h is = absurd cc
 run_built d e (run_lines.Do replica op xs) lacks h is = order_built d e replica _ tt h (takens.do_taken d e replica op xs is).order
 run_built d e (run_lines.Send replica peer) lacks h is =
     let t = takens.send_taken d e replica peer is in
-    subst Built t.whole (record { spec = h.spec; stops = h.stops; orders = all_one OrderStaysUp d.orders _ h.orders tt })
+    subst Built t.whole (record { stops = h.stops; orders = all_one OrderStaysUp d.orders _ h.orders tt })
 run_built d e (run_lines.Take replica peer number) lacks h is = order_built d e replica _ tt h (takens.take_taken d e replica peer number is).order
 run_built d e (run_lines.Crash replica) lacks h is = absurd cc
 run_built d e (run_lines.Recover replica) lacks h is = absurd cc
-run_built d e (run_lines.Turns turns) lacks h is = subst Built (takens.turns_taken d e turns is).whole (record { spec = h.spec; stops = h.stops; orders = h.orders })
-run_built d e (run_lines.Client client home) lacks h is = subst Built (takens.client_taken d e client home is).whole (record { spec = h.spec; stops = h.stops; orders = h.orders })
-run_built d e (run_lines.AskDo client op xs) lacks h is = subst Built (takens.request_taken d e client op xs is).ask.whole (record { spec = h.spec; stops = h.stops; orders = h.orders })
+run_built d e (run_lines.Turns turns) lacks h is = subst Built (takens.turns_taken d e turns is).whole (record { stops = h.stops; orders = h.orders })
+run_built d e (run_lines.Client client home) lacks h is = subst Built (takens.client_taken d e client home is).whole (record { stops = h.stops; orders = h.orders })
+run_built d e (run_lines.AskDo client op xs) lacks h is = subst Built (takens.request_taken d e client op xs is).ask.whole (record { stops = h.stops; orders = h.orders })
 run_built d e (run_lines.AskCrash client) lacks h is = absurd cc
 run_built d e (run_lines.AskRecover client) lacks h is = absurd cc
 
 built_kept : KeepsWith (Lacks unbuilt_words) Built
 built_kept = record {
-  spec = λ d e w ts line lacks from h is.
-      let t = takens.spec_taken d e line is in
-      let same = spec_back.line_back w ts line from in
-      subst Built t.whole (record { spec = spec_built d.spec t.spec line (subst (Lacks unbuilt_words) same lacks) h.spec t.taken; stops = h.stops; orders = h.orders });
+  spec = λ d e w ts line lacks from h is. subst Built (takens.spec_taken d e line is).whole (record { stops = h.stops; orders = h.orders });
   run = λ d e w ts line lacks from h is. run_built d e line (subst (Lacks unbuilt_words) (run_back.line_back w ts line from) lacks) h is;
 }
 
@@ -248,8 +161,8 @@ work_empty d false h = h
 
 draft_lacks : (group : Group) (lines : List (List ℕ)) (d : Draft) → AllByRecursion (HoldsNone (words_of group)) lines → draft_of lines ≡ Ok d → IsLacking group (drafts.document_from d)
 draft_lacks Unbuilt lines d none is =
-    let h = none_kept unbuilt_words Built built_kept (record { spec = tt; stops = refl; orders = tt }) lines d none is in
-    record { ops = h.spec; stops = h.stops; work = work_up d (nat_le 10 d.rank) h.orders }
+    let h = none_kept unbuilt_words Built built_kept (record { stops = refl; orders = tt }) lines d none is in
+    record { stops = h.stops; work = work_up d (nat_le 10 d.rank) h.orders }
 draft_lacks Schedule lines d none is = work_empty d (nat_le 10 d.rank) (none_kept schedule_words NoOrders no_orders_kept refl lines d none is)
 draft_lacks Clients lines d none is =
     let h = none_kept client_words NoClients no_clients_kept (omega arith) lines d none is in
@@ -280,7 +193,7 @@ all_tokens bytes d is = lines_tokens (lines_of bytes) (draft_of (lines_of bytes)
 -- ---- words among the runs of a line
 
 names_begin : (group : Group) → AllByRecursion IsNoNumber (words_of group)
-names_begin Unbuilt = (refl, (refl, (refl, (refl, tt))))
+names_begin Unbuilt = (refl, (refl, (refl, tt)))
 names_begin Schedule = (refl, (refl, (refl, (refl, (refl, tt)))))
 names_begin Clients = (refl, (refl, (refl, tt)))
 

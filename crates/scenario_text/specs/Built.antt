@@ -1,5 +1,5 @@
 -- What a document lacks where no line of it holds a word of a group.
-use Rattle.std.specs.Prelude.{◌≡◌, false, List, []}
+use Rattle.std.specs.Prelude.{◌≡◌, List, []}
 use Rattle.std.specs.List.{AllByRecursion}
 use Rattle.run_model.specs.declared.step.Ask.{Ask}
 use Rattle.run_model.specs.declared.step.Ask.TheVariants as asks
@@ -23,9 +23,8 @@ abbrev pub AllStayUp : Work → Type 0
 AllStayUp (works.Schedule orders) = AllByRecursion (λ order. StaysUp order.ask) orders
 AllStayUp (works.Clients turns homes asked) = Unit {0}
 
--- no interval parameter, stop, crash or recovery
+-- no stop, crash or recovery
 pub record IsBuilt (d : Document) : Type 0 where
-  pub ops : AllByRecursion (λ op. AllByRecursion (λ param. param.interval ≡ false) op.params) d.spec.ops
   pub stops : d.stops ≡ []
   pub work : AllStayUp d.work
 

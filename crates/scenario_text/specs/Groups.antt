@@ -9,7 +9,7 @@ use Rattle.scenario_text.specs.declared.group.Group.{Group}
 use Rattle.scenario_text.specs.declared.group.Group.TheVariants.{Unbuilt, Schedule, Clients}
 
 abbrev pub unbuilt_words : List (List ℕ)
-unbuilt_words = codes "interval" ∷ codes "stop" ∷ codes "crash" ∷ codes "recover" ∷ []
+unbuilt_words = codes "stop" ∷ codes "crash" ∷ codes "recover" ∷ []
 
 abbrev pub schedule_words : List (List ℕ)
 schedule_words = codes "do" ∷ codes "send" ∷ codes "take" ∷ codes "crash" ∷ codes "recover" ∷ []

@@ -24,7 +24,7 @@ pub enum Group {
 fn is_unbuilt(word: &[u8]) -> bool
     ensures { result ≡ is_one_of groups.unbuilt_words word.now }
 {
-    same(word, b"interval") || same(word, b"stop") || same(word, b"crash") || same(word, b"recover")
+    same(word, b"stop") || same(word, b"crash") || same(word, b"recover")
 }
 
 fn is_schedule(word: &[u8]) -> bool

@@ -1,6 +1,6 @@
 use Rattle.std.proofs.Common.{inl, inr, refl, sym, subst}
 use Rattle.indigo_program.specs.Inputs.{IsOfClients}
-use Rattle.indigo_program.proofs.Runs.{partless, refused_answer}
+use Rattle.indigo_program.proofs.Runs.{refused_answer}
 use Rattle.indigo_program.proofs.reply.run.Goals as goal
 
 pub returns-in-Some : goal.returns-in-Some
@@ -14,6 +14,3 @@ returns-in-Some-first_of c =
     refused_answer _ _ _ _ c.refused-in-Some-first_of.result
     (inr (inr (record { document = c.args.document; orders = c.in-Schedule.orders; read = c.requires.read; schedule = c.in-Schedule.is; first = sym c.in-Some-first_of.ensures.value; cause_is = refl })))
     c.refused-in-Some-first_of.ensures
-
-pub run_by_plan-requires-clause-partless : goal.run_by_plan-requires-clause-partless
-run_by_plan-requires-clause-partless c = partless c.args.document (c.in-None-first_of.ensures.lacking c.args.document c.requires.read refl)

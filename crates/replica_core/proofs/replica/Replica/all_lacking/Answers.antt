@@ -1,21 +1,9 @@
-use Rattle.std.proofs.Common.{◌≡◌, ◌<◌, List, ◌++◌, ◌∷◌, [], length, get_or, map, take, sym, ap, subst, ◌∙◌, arith}
-use Rattle.effect_model.proofs.Sizes.{all_at}
-use Rattle.run_model.specs.Fitting.{WantFits}
+use Rattle.std.proofs.Common.{◌≡◌, ◌<◌, List, ◌++◌, ◌∷◌, [], length, get_or, map, take, sym, ap, ◌∙◌, arith}
 use Rattle.spec_model.specs.declared.right.Want.{Want}
 use Rattle.run_model.specs.Wants.{want_less}
 use Rattle.replica_core.specs.Replicas.{holds_of}
 use Rattle.replica_core.proofs.Lists.{map_take_more}
 use Rattle.replica_core.proofs.replica.Replica.all_lacking.Goals as goal
-
-pub still_lacking-requires-clause-fits : goal.still_lacking-requires-clause-fits
-still_lacking-requires-clause-fits c =
-    let setup = c.args.setup.now in
-    let r = c.args.self.now in
-    let k = c.loop-want.want-index in
-    let want : Want = c.want-item.result in
-    let lt : k < length r.wants = omega (arith, c.loop-want-test.true, ap length c.list-want-items.ensures.value) in
-    let is : want ≡ get_or r.wants k want = c.want-item.is ∙ ap (λ (l : List Want). get_or l k want) c.list-want-items.ensures.value in
-    subst (WantFits setup) (sym is) (all_at (WantFits setup) r.wants k want c.requires.own.wants lt)
 
 pub loop-want-preserved : goal.loop-want-preserved
 loop-want-preserved c =

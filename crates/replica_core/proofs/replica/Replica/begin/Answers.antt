@@ -8,7 +8,6 @@ returns-clause-own c = first_replica c.args.setup.now c.args.me _ (record {
   within = c.requires.place;
   few = c.requires.few;
   setup_fits = c.requires.setup;
-  partless = c.requires.partless;
   store = c.in_ok-store.ensures.own;
   empty = c.in_ok-store.ensures.empty;
   table = c.begin-3.ensures;
@@ -22,7 +21,6 @@ returns-clause-stands c = first_stands c.args.setup.now c.args.me (record { me =
   within = c.requires.place;
   few = c.requires.few;
   setup_fits = c.requires.setup;
-  partless = c.requires.partless;
   store = c.in_ok-store.ensures.own;
   empty = c.in_ok-store.ensures.empty;
   table = c.begin-3.ensures;

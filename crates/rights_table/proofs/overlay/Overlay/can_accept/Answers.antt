@@ -4,15 +4,8 @@ use Rattle.spec_model.specs.declared.right.Held.{Held}
 use Rattle.run_model.specs.Allowed.{span_given}
 use Rattle.run_model.specs.Passing as passing
 use Rattle.rights_table.specs.Tables.{entered}
-use Rattle.rights_table.proofs.Partless.{whole_right}
 use Rattle.rights_table.proofs.Telling.{table_tells}
 use Rattle.rights_table.proofs.overlay.Overlay.can_accept.Goals as goal
-
-pub can_accept-requires-clause-whole : goal.can_accept-requires-clause-whole
-can_accept-requires-clause-whole c = whole_right c.args.setup.now c.args.right.now c.requires.partless c.requires.right
-
-pub can_accept-requires-else-has-clause-whole : goal.can_accept-requires-else-has-clause-whole
-can_accept-requires-else-has-clause-whole c = whole_right c.args.setup.now c.args.right.now c.requires.partless c.requires.right
 
 pub returns-then-has : goal.returns-then-has
 returns-then-has c = λ logs me own is.
@@ -20,8 +13,7 @@ returns-then-has c = λ logs me own is.
     let p = c.args.piece.now in
     c.can_accept.ensures
     ∙ ap (λ (h : Held). passing.can_accept c.args.setup.now.replicas h p)
-    (table_tells c.args.setup.now logs me own (λ q. is_some (entered o.touched q)) o.touched c.args.right.now (span_given p) is.touched (sym c.has.ensures ∙ c.if-has.true)
-    (whole_right c.args.setup.now c.args.right.now c.requires.partless c.requires.right))
+    (table_tells c.args.setup.now logs me own (λ q. is_some (entered o.touched q)) o.touched c.args.right.now (span_given p) is.touched (sym c.has.ensures ∙ c.if-has.true))
 
 pub returns-else-has : goal.returns-else-has
 returns-else-has c = λ logs me own is.
@@ -29,5 +21,4 @@ returns-else-has c = λ logs me own is.
     let p = c.args.piece.now in
     c.can_accept-else-has.ensures
     ∙ ap (λ (h : Held). passing.can_accept c.args.setup.now.replicas h p)
-    (table_tells c.args.setup.now logs me own (λ q. not (is_some (entered o.touched q))) o.under.now c.args.right.now (span_given p) is.rest (ap not (sym c.has.ensures ∙ c.if-has.false))
-    (whole_right c.args.setup.now c.args.right.now c.requires.partless c.requires.right))
+    (table_tells c.args.setup.now logs me own (λ q. not (is_some (entered o.touched q))) o.under.now c.args.right.now (span_given p) is.rest (ap not (sym c.has.ensures ∙ c.if-has.false)))

@@ -1,11 +1,7 @@
 use Rattle.std.proofs.Common.{refl}
 use Rattle.rights_table.specs.declared.overlay.Overlay.{Overlay}
-use Rattle.rights_table.proofs.Partless.{whole_right}
 use Rattle.rights_table.proofs.Touched.{touched_more}
 use Rattle.rights_table.proofs.overlay.Overlay.touch.Goals as goal
-
-pub take_over-requires-clause-whole : goal.take_over-requires-clause-whole
-take_over-requires-clause-whole c = whole_right c.args.setup.now c.args.right.now c.requires.partless c.requires.right
 
 pub returns-clause-same : goal.returns-clause-same
 returns-clause-same c = λ logs me own is.

@@ -5,7 +5,7 @@ use Rattle.run_model.specs.Passing.{can_accept}
 use Rattle.rights_table.specs.Holdings.{told}
 use Rattle.rights_table.proofs.Entries.{kind_entered}
 use Rattle.rights_table.proofs.Telling.{told_held}
-use Rattle.rights_table.proofs.Pieces.{joins_may, accepts, becomes_kept, becomes_no_more}
+use Rattle.rights_table.proofs.Pieces.{joins_may, piece_low, accepts, becomes_kept, becomes_no_more}
 use Rattle.rights_table.proofs.table.Table.accept.Goals as goal
 
 pub change-requires-clause-may : goal.change-requires-clause-may
@@ -15,7 +15,7 @@ change-requires-clause-may c = λ h is.
     let p = c.args.piece.now in
     let kind = kind_entered t.replicas t.entries.items r h t.kinds is in
     let can = subst (λ (held : Held). can_accept c.args.setup.now.replicas held p ≡ true) (sym (told_held c.args.setup.now t t.replicas r h (span_given p) is kind)) c.requires.joins in
-    joins_may t.replicas r h p kind (subst (λ n. can_accept n (told h) p ≡ true) (sym c.requires.replicas) can)
+    joins_may t.replicas r h p kind (piece_low c.args.setup.now r p c.requires.well_formed c.requires.piece) (subst (λ n. can_accept n (told h (span_given p)) p ≡ true) (sym c.requires.replicas) can)
 
 pub returns-clause-accepted : goal.returns-clause-accepted
 returns-clause-accepted c = λ logs me own among x out from at to accept there gave is.

@@ -15,14 +15,14 @@ step-requires c =
     let e : Entry = c.index_mut.result.now in
     c.requires.may e.holding (entry_at es c.args.right.now c.at-at.result e c.at-at.ensures c.index_mut.ensures.value).1
 
-pub invariant_of-self : goal.invariant_of-self
-invariant_of-self c =
+pub invariant_of-self-clause-kinds : goal.invariant_of-self-clause-kinds
+invariant_of-self-clause-kinds c =
     let es : List Entry = c.args.self.now.entries.items in
     let all = c.args.self.now.replicas in
     let at = c.at-at.result in
     let e : Entry = c.index_mut.result.now in
     let lt : at < length es = place_within es c.args.right.now at c.at-at.ensures in
-    record { kinds = kinds_set all es at (with_holding e c.step.new.self) c.args.self.now.kinds (c.step.ensures.kind all e.right (kind_at all es at e c.args.self.now.kinds lt c.index_mut.ensures.value)) }
+    kinds_set all es at (with_holding e c.step.new.self) c.args.self.now.kinds (c.step.ensures.kind all e.right (kind_at all es at e c.args.self.now.kinds lt c.index_mut.ensures.value))
 
 pub returns : goal.returns
 returns c =

@@ -12,7 +12,7 @@ change-requires-clause-may c = λ h is.
     let r = c.args.right.now in
     let p = c.args.piece.now in
     let kind = kind_entered t.replicas t.entries.items r h t.kinds is in
-    held_may h p (subst (λ (held : Held). IsHeldPiece held p) (sym (told_held c.args.setup.now t t.replicas r h (span_given p) is kind)) c.requires.held)
+    held_may t.replicas r h p kind (subst (λ (held : Held). IsHeldPiece held p) (sym (told_held c.args.setup.now t t.replicas r h (span_given p) is kind)) c.requires.held)
 
 pub returns-clause-out : goal.returns-clause-out
 returns-clause-out c = λ logs me own among x to out is.

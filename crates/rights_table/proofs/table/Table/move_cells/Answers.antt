@@ -42,5 +42,6 @@ returns c =
           let held = c.requires.held q in
           omega (arith, net.spent, net.created, gains, loses, first, then, held);
       modes = λ q. c.lose_lines.ensures.modes q ∙ c.gain_lines.ensures.modes q;
+      points = λ q x. c.lose_lines.ensures.points q x ∙ c.gain_lines.ensures.points q x;
       kept = λ q has. c.lose_lines.ensures.kept q (c.gain_lines.ensures.kept q has);
     }

@@ -1,6 +1,9 @@
-use Rattle.std.proofs.Common.{◌<◌, ◌^◌, true, refl, sym, subst, ◌∙◌, arith}
+use Rattle.std.proofs.Common.{◌≡◌, ◌<◌, ◌^◌, true, refl, sym, subst, ◌∙◌, arith}
 use Rattle.spec_model.specs.declared.log.Body.{Body}
-use Rattle.run_model.specs.Allowed.{IsAllowed}
+use Rattle.spec_model.specs.declared.right.Held.{Held}
+use Rattle.run_model.specs.Allowed.{IsAllowed, IsHeldPiece, span_given}
+use Rattle.run_model.specs.Passing.{can_accept}
+use Rattle.rights_table.proofs.Telling.{table_tells}
 use Rattle.run_model.specs.Fitting.{BodyFits}
 use Rattle.rights_table.specs.Whole.{GoesWith, HasEntryFor}
 use Rattle.rights_table.proofs.Growing.{few_act, few_out, few_accept}
@@ -38,6 +41,28 @@ act-requires-clause-held c = λ q.
     let held = act_held setup may.0 may.1 may.2 may.3.deps c.in-Act.inst c.requires.setup fits allowed q in
     let same = may.5.table.counts q refl in
     omega (arith, held, same)
+
+pub give-requires-clause-held : goal.give-requires-clause-held
+give-requires-clause-held c =
+    let setup = c.args.setup.now in
+    let may = c.requires.may in
+    let allowed = subst (λ (b : Body). IsAllowed setup may.0 may.1 may.2 may.3.deps b) (may.4 ∙ c.in-Out.is) may.6.allowed in
+    let tells = table_tells setup may.0 may.1 may.2 (λ r. true) c.args.self.now c.in-Out.right (span_given c.in-Out.piece) may.5.table refl in
+    subst (λ (held : Held). IsHeldPiece held c.in-Out.piece) (sym tells) allowed
+
+pub accept_of-requires-clause-joins : goal.accept_of-requires-clause-joins
+accept_of-requires-clause-joins c =
+    let setup = c.args.setup.now in
+    let may = c.requires.may in
+    let takes = subst (λ (b : Body). GoesWith setup may.0 may.1 may.2 may.3.deps c.args.of c.args.needs.now b) (may.4 ∙ c.in-Accept.is) may.6.with in
+    let tells = table_tells setup may.0 may.1 may.2 (λ r. true) c.args.self.now takes.right (span_given takes.piece) may.5.table refl in (
+      takes.to,
+      takes.right,
+      takes.piece,
+      same_Some c.in-Some.out takes.out.body (sym c.in-Some.is ∙ takes.of_is) ∙ takes.gives,
+      takes.piece_fits,
+      subst (λ (held : Held). can_accept setup.replicas held takes.piece ≡ true) (sym tells) takes.joins,
+    )
 
 pub returns-in-Act-clause-owned : goal.returns-in-Act-clause-owned
 returns-in-Act-clause-owned c = λ logs me own x is has may.

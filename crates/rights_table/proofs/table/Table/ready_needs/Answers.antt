@@ -4,14 +4,8 @@ use Rattle.spec_model.specs.declared.right.Right.{Right}
 use Rattle.run_model.specs.Fitting.{NeedFits}
 use Rattle.rights_table.specs.Touched.{need_touches}
 use Rattle.rights_table.proofs.Levels.{rest_of}
-use Rattle.rights_table.proofs.Making.{room_more, first_of}
-use Rattle.rights_table.proofs.Partless.{whole_right}
+use Rattle.rights_table.proofs.Making.{room_more}
 use Rattle.rights_table.proofs.table.Table.ready_needs.Goals as goal
-
-pub ready_need-requires-clause-whole : goal.ready_need-requires-clause-whole
-ready_need-requires-clause-whole c =
-    let lt : c.loop-need.need-index < length c.args.needs.now = omega (arith, c.loop-need-test.true) in
-    whole_right c.args.setup.now c.need-item.result.right c.requires.partless (first_of (NeedFits c.args.setup.now) c.args.needs.now c.loop-need.need-index c.need-item.result lt c.need-item.is c.loop-need.invariant.fits).of
 
 pub loop-need-preserved : goal.loop-need-preserved
 loop-need-preserved c =

@@ -21,13 +21,13 @@ returns-in-Some-clause-over c = takes_none c.args.setup.now c.args.from.now c.ar
 pub returns-in-Some-clause-entered : goal.returns-in-Some-clause-entered
 returns-in-Some-clause-entered c = place_holds c.args.self.now.entries.items c.args.right.now c.in-Some.field-0 c.in-Some.ensures.some
 
-pub invariant_of-self : goal.invariant_of-self
-invariant_of-self c =
+pub invariant_of-self-clause-kinds : goal.invariant_of-self-clause-kinds
+invariant_of-self-clause-kinds c =
     let es : List Entry = c.args.self.now.entries.items in
-    let e : Entry = added c.args.right.now c.holding-holding.result in
+    let e : Entry = added c.args.right.now c.in_ok-holding.holding in
     let all = c.args.self.now.replicas in
-    let kind : is_of all e.right e.holding ≡ true = subst (λ n. is_of n e.right e.holding ≡ true) (sym c.requires.replicas) c.holding-holding.ensures.kind in
-    record { kinds = subst (λ (l : List Entry). are_of_kind all l ≡ true) (sym c.push.ensures.items) (either (is_ok c.push.result) all es e c.args.self.now.kinds (kinds_push all es e c.args.self.now.kinds kind)) }
+    let kind : is_of all e.right e.holding ≡ true = subst (λ n. is_of n e.right e.holding ≡ true) (sym c.requires.replicas) c.in_ok-holding.ensures.kind in
+    subst (λ (l : List Entry). are_of_kind all l ≡ true) (sym c.push.ensures.items) (either (is_ok c.push.result) all es e c.args.self.now.kinds (kinds_push all es e c.args.self.now.kinds kind))
   where
     either : (b : Bool) (all : _) (es : List Entry) (e : Entry) → are_of_kind all es ≡ true → are_of_kind all (es ++ e ∷ []) ≡ true → are_of_kind all (cond b (es ++ e ∷ []) es) ≡ true
     either true all es e old new = new
@@ -35,14 +35,14 @@ invariant_of-self c =
 
 pub returns-clause-over : goal.returns-clause-over
 returns-clause-over c =
-    let e : Entry = added c.args.right.now c.holding-holding.result in
-    let is = takes_one c.args.setup.now c.args.from.now c.args.self.now.entries.items _ e c.in_ok-push.ensures.items c.in-None.ensures.none c.holding-holding.ensures.count c.holding-holding.ensures.mode in
+    let e : Entry = added c.args.right.now c.in_ok-holding.holding in
+    let is = takes_one c.args.setup.now c.args.from.now c.args.self.now.entries.items _ e c.in_ok-push.ensures.items c.in-None.ensures.none c.in_ok-holding.ensures.count c.in_ok-holding.ensures.mode c.in_ok-holding.ensures.points in
     record { me = refl; replicas = refl; kept = is.0; more = is.1 }
 
 pub returns-clause-entered : goal.returns-clause-entered
 returns-clause-entered c =
     let es : List Entry = c.args.self.now.entries.items in
-    let e : Entry = added c.args.right.now c.holding-holding.result in (
+    let e : Entry = added c.args.right.now c.in_ok-holding.holding in (
       e.holding,
       ap (λ (l : List Entry). entry_of l e.right) c.in_ok-push.ensures.items ∙ entry_push es e e.right c.in-None.ensures.none ∙ cond-true (same_right e.right e.right) (Some e.holding) (entry_of es e.right) (same_refl e.right),
     )

@@ -1,0 +1,13 @@
+mod Rows
+mod Blocks
+mod Apart
+pub mod Queries
+mod Counts
+mod Spliced
+mod Tests
+mod Cut
+mod Put
+mod Counted
+pub mod Rooms
+pub mod Clips
+pub mod Frees
