@@ -1,9 +1,16 @@
 -- Documents that are run or refused.
-use Rattle.std.proofs.Common.{◌≡◌, inl, inr, ℕ, List, length, sym, ap, subst, ◌∙◌}
+use Rattle.std.proofs.Common.{◌≡◌, ◌<◌, inl, inr, ℕ, List, length, sym, ap, subst, ◌∙◌}
 use Rattle.std.specs.Prelude.{Result, Ok, Err, IfOk}
 use Rattle.line_text.specs.declared.cause.Cause.{Cause}
 use Rattle.scenario_text.specs.declared.document.Document.{Document}
 use Rattle.line_text.specs.Lines.{lines_of}
+use Rattle.spec_model.specs.declared.plan.Setup.{Setup}
+use Rattle.spec_model.specs.declared.spec.Spec.{Spec}
+use Rattle.spec_model.specs.Fits.{IsWellFormed, PlanFits}
+use Rattle.spec_model.specs.Stable.{IsEnough}
+use Rattle.run_model.specs.Sound.{IsSettled}
+use Rattle.reservation_plan.specs.declared.analysed.Analysed.{Analysed}
+use Rattle.plan_answers.specs.Analysing.{IsAnalysed}
 use Rattle.scenario_text.specs.Reading.{document_of, document_of_draft, draft_of}
 use Rattle.plan_answers.specs.Checking as checks
 use Rattle.plan_answers.specs.Splitting.{document_lines, plan_lines}
@@ -30,3 +37,10 @@ checked_answer bytes front plan d before (Ok reply) is_front is_plan read count 
       answer = subst (λ n. checks.IsAnswer d.spec n (plan_lines (lines_of bytes)) reply.status reply.text) (count ∙ ap length is_front) (subst (λ lines. checks.IsAnswer d.spec before lines reply.status reply.text) is_plan is);
     })
 checked_answer bytes front plan d before (Err e) is_front is_plan read count is = tt
+
+-- a derived plan settles its setup
+pub plan_settles : (spec : Spec) (replicas : ℕ) (analysed : Analysed) → 0 < replicas → IsWellFormed spec → IsAnalysed spec analysed → (let setup : Setup = record { spec = spec; plan = analysed.plan; replicas = replicas } in IsSettled setup)
+plan_settles spec replicas analysed some formed is = record {
+  fits = record { some = some; spec = formed; plan = subst (PlanFits spec) (sym is.plan) is.certified.fits };
+  enough = subst (IsEnough spec) (sym is.plan) is.certified.enough;
+}

@@ -7,3 +7,6 @@ pub mod Rights
 pub mod Bodies
 pub mod Batches
 pub mod Lengths
+pub mod Small
+pub mod Rightful
+pub mod Logged

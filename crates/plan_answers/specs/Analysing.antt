@@ -24,17 +24,17 @@ pub record HasPlan (spec : Spec) : Type 0 where
   pub few : case_count spec ≤ most_cases
   pub goes : find (ends spec) (touched_cases spec) ≡ None
 
--- the derived plan fits it, and this certificate of it checks
+-- the derived plan fits it, this certificate of it checks, and the plan is enough: all instances that it doesn't separate are stable
 pub record IsCertified (spec : Spec) (certificate : Certificate) : Type 0 where
   pub has : HasPlan spec
   pub fits : PlanFits spec (derived_plan spec)
   pub checks : Checks spec (derived_plan spec) certificate
+  pub enough : IsEnough spec (derived_plan spec)
 
--- the derived plan, which is enough, with such a certificate, neither of them long
+-- the derived plan with such a certificate, neither of them long
 pub record IsAnalysed (spec : Spec) (analysed : Analysed) : Type 0 where
   pub plan : analysed.plan ≡ derived_plan spec
   pub certified : IsCertified spec analysed.certificate
-  pub enough : IsEnough spec analysed.plan
   pub short : AreShort analysed.certificate.lines
   pub few_locks : length analysed.plan.locks ≤ 4096
   pub few_parts : length analysed.plan.parts ≤ 4096

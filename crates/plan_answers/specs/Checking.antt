@@ -10,6 +10,7 @@ use Rattle.certificate_check.specs.declared.verdict.Verdict.TheVariants as verdi
 use Rattle.certificate_check.specs.declared.verdict.Why.{Why}
 use Rattle.certificate_check.specs.declared.verdict.Why.TheVariants.{BadStep, Extra, Missing, NotEmpty, NotSeparated}
 use Rattle.ground_clauses.specs.Counting.{case_count}
+use Rattle.spec_model.specs.Stable.{IsEnough}
 use Rattle.spec_model.specs.declared.plan.Plan.{Plan}
 use Rattle.spec_model.specs.declared.spec.Spec.{Spec}
 use Rattle.plan_answers.specs.Texts.{counted_text, most_cases, too_many_text}
@@ -43,11 +44,12 @@ failing_line plan certificate case NotEmpty = last_line plan certificate case
 abbrev pub refused_text : ℕ → List ℕ
 refused_text line = counted_text (codes "certificate refused at line ") line
 
--- they check
+-- they check, and the plan is enough: all instances that it doesn't separate are stable
 pub record IsYes (spec : Spec) (plan : Plan) (certificate : Certificate) (status : ℕ) (text : List ℕ) : Type 0 where
   pub status_is : status ≡ 0
   pub text_is : text ≡ codes "certificate yes\n"
   pub checks : Checks spec plan certificate
+  pub enough : IsEnough spec plan
 
 -- a line is refused
 pub record IsRefusal (line status : ℕ) (text : List ℕ) : Type 0 where
