@@ -1,8 +1,8 @@
 -- What a replica logs, wants and sends fits, answer by answer, but for the size of pieces.
-use Rattle.std.proofs.Common.{◌≡◌, ◌≢◌, ℕ, zero, suc, ◌+◌, ◌<◌, ◌≤◌, ◌^◌, true, List, [], ◌∷◌, length, take, drop, refl, sym, ap, subst, ◌∙◌, arith, length-take}
+use Rattle.std.proofs.Common.{◌≡◌, ◌≢◌, ℕ, ◌+◌, ◌<◌, ◌≤◌, ◌^◌, true, List, [], ◌∷◌, length, take, drop, refl, sym, ap, subst, ◌∙◌, arith, length-append, length-take}
 use Rattle.std.specs.Prelude.{slice_index, slice_index_or, slice_set, not, nat_lt, Some, None, Option}
 use Rattle.std.specs.List.{AllByRecursion}
-use Rattle.std.proofs.lemmas.List.{length_push, length-map}
+use Rattle.std.proofs.lemmas.List.{length-map, take-append-drop}
 use Rattle.std.proofs.lemmas.Option.{same_Some}
 use Rattle.spec_model.specs.declared.plan.Setup.{Setup}
 use Rattle.spec_model.specs.declared.clause.Broken.{Broken}
@@ -17,16 +17,16 @@ use Rattle.spec_model.specs.Needs.{needs}
 use Rattle.run_model.specs.declared.message.Message.{Message}
 use Rattle.run_model.specs.declared.step.Outcome.{Outcome}
 use Rattle.run_model.specs.Fitting.{AreInRow, IsPlaced, NeedFits, SetupFits, WantFits}
-use Rattle.run_model.specs.Logs.{Logs}
+use Rattle.run_model.specs.Logs.{Logs, cut_after}
 use Rattle.run_model.specs.Levels.{first_lacking}
-use Rattle.run_model.specs.Steps.{AreAdmitted, Requested, Sends, Takes, accepts_of, answered, cut_after, dropped, message_of}
+use Rattle.run_model.specs.Steps.{AreAdmitted, Requested, Sends, Takes, accepts_of, answered, dropped, message_of}
 use Rattle.run_model.specs.Wants.{want_less, want_of}
 use Rattle.run_model.specs.Worlds.{Sending, Standing, holding, joined, logged_all, truths_seen}
 use Rattle.run_model.proofs.Lists.{each_append, each_filter, each_take, each_weaker}
-use Rattle.run_model.proofs.Own.{own_drop}
+use Rattle.run_model.proofs.Own.{own_drop, own_front}
 use Rattle.message_laws.specs.Laws.{NeedsFit}
-use Rattle.message_laws.proofs.Lists.{each_dropped, each_parts}
-use Rattle.message_laws.proofs.Logged.{ItemNames, LogNames, accepts_name, all_logged_names, answered_gives, gives_for, gives_name, logged_keeps, logged_length, logged_names}
+use Rattle.message_laws.proofs.Lists.{each_dropped, each_parts, filter_short}
+use Rattle.message_laws.proofs.Logged.{ItemNames, LogNames, accepts_few, accepts_name, all_logged_names, answered_gives, gives_few, gives_for, gives_name, logged_keeps, logged_length, logged_names}
 use Rattle.message_laws.proofs.Wanted.{lacking_fits, noted_few, noted_fit, still_few, still_fit, want_fits, wants_less_fit}
 
 -- ---- what is kept
@@ -64,13 +64,11 @@ short_fits need setup logs me inst p l fits known is =
 
 -- after a request
 pub requested_fits : NeedsFit → (setup : Setup) (logs : Logs) (me : ℕ) (inst : Inst) (broken : Option Broken) (lacking : Option Lacking) (old : Standing) (outcome : Outcome) (new : Standing) → SetupFits setup → InstFits setup.spec inst
-    → LogNames setup me old → StandsFit setup old → length new.log < 2 ^ 32 → first_lacking setup.replicas (holding setup logs me old) (needs setup (truths_seen setup logs old) inst) ≡ lacking → Requested me inst broken lacking old outcome new → StandsFit setup new
-requested_fits need setup logs me inst (Some broken) lacking old outcome new well fits own h short is done = subst (StandsFit setup) (sym done.1) h
-requested_fits need setup logs me inst None None old outcome new well fits own h short is done =
-    let item : LogItem = record { origin = me; index = length old.log; deps = old.cut; body = body.Act inst } in
-    let room : length old.log + 1 < 2 ^ 32 = omega (arith, short, ap (λ (p : Standing). length p.log) done.1, length_push old.log item) in
+    → LogNames setup me old → StandsFit setup old → length old.log + 1 < 2 ^ 32 → first_lacking setup.replicas (holding setup logs me old) (needs setup (truths_seen setup logs old) inst) ≡ lacking → Requested me inst broken lacking old outcome new → StandsFit setup new
+requested_fits need setup logs me inst (Some broken) lacking old outcome new well fits own h room is done = subst (StandsFit setup) (sym done.1) h
+requested_fits need setup logs me inst None None old outcome new well fits own h room is done =
     subst (StandsFit setup) (sym done.1) (record { log = (logged_names setup me (body.Act inst) old fits room own).log; wants = h.wants; few = h.few; sent = h.sent })
-requested_fits need setup logs me inst None (Some l) old outcome new well fits own h short is done =
+requested_fits need setup logs me inst None (Some l) old outcome new well fits own h room is done =
     let want : Want = want_of l.need in
     subst (StandsFit setup) (sym done.1) (record {
       log = h.log;
@@ -80,12 +78,6 @@ requested_fits need setup logs me inst None (Some l) old outcome new well fits o
     })
 
 -- ---- sends
-
--- the items in front of a row are a row
-row_taken : (from at n : ℕ) (items : List LogItem) → AreInRow from at items → AreInRow from at (take n items)
-row_taken from at zero items row = tt
-row_taken from at (suc n) [] row = tt
-row_taken from at (suc n) (x ∷ items) row = (row.0, row.1, row.2, row_taken from (at + 1) n items row.3)
 
 -- the message to another
 message_fits : (setup : Setup) (logs : Logs) (me to number stamp : ℕ) (p : Standing) → LogNames setup me p → AreInRow me 0 p.log → StandsFit setup p → to ≢ me → IsSentWell setup to (message_of setup logs me to number stamp p)
@@ -99,7 +91,7 @@ message_fits setup logs me to number stamp p own row h other =
       cut = own.wide;
       placed = each_take (IsPlaced setup.replicas) 16 rest (each_dropped (IsPlaced setup.replicas) seen p.log (each_weaker (ItemNames setup) (IsPlaced setup.replicas) (λ x names. names.placed) p.log h.log));
       first = seen;
-      row = row_taken me seen 16 rest (own_drop me 0 seen p.log seen (omega arith) row);
+      row = own_front me seen (take 16 rest) (drop 16 rest) (subst (AreInRow me seen) (sym (take-append-drop 16 rest)) (own_drop me 0 seen p.log seen (omega arith) row));
       few_items = omega (arith, length-take 16 rest);
       wants = wants_less_fit setup (holding setup logs me p) p.wants h.wants;
       few_wants = omega (arith, length-map p.wants (want_less (holding setup logs me p)), h.few);
@@ -122,10 +114,16 @@ applied_placed P cut items applied h fit =
     let new = each_weaker (λ (item : LogItem). P item × (test item ≡ true)) P (λ item both. both.0) _ (each_filter P test items fit) in
     (each_parts P applied h.rest (subst (AllByRecursion P) h.prefix new)).0
 
+-- and is no more than there is
+applied_few : (cut : List ℕ) (items applied : List LogItem) → AreAdmitted cut items applied → length applied ≤ length items
+applied_few cut items applied h =
+    let new = filter_short (λ (item : LogItem). not (nat_lt item.index (slice_index cut item.origin))) items in
+    omega (arith, new, ap length h.prefix, length-append applied h.rest)
+
 -- after a take
 pub takes_fit : (setup : Setup) (logs : Logs) (me to : ℕ) (message : Message) (applied : List LogItem) (old : Standing) (outcome : Outcome) (new : Standing) → LogNames setup me old → length (cut_after old.cut applied) ≡ length old.cut
-    → IsSentWell setup to message → StandsFit setup old → length new.log < 2 ^ 32 → Takes setup logs me message applied old outcome new → StandsFit setup new
-takes_fit setup logs me to message applied old outcome new own long fits h short takes =
+    → IsSentWell setup to message → StandsFit setup old → length old.log + 24 < 2 ^ 32 → Takes setup logs me message applied old outcome new → StandsFit setup new
+takes_fit setup logs me to message applied old outcome new own long fits h room takes =
     let start : Standing = record old { told = slice_set old.told message.from (joined (slice_index_or old.told message.from []) message.cut); cut = cut_after old.cut applied } in
     let accepts : List Body = accepts_of me applied in
     let first : Standing = logged_all me accepts start in
@@ -133,10 +131,11 @@ takes_fit setup logs me to message applied old outcome new own long fits h short
     let gives : List Body = gives_for setup logs me message.from message.wants middle in
     let last : Standing = logged_all me gives middle in
     let is : new ≡ last = takes.becomes ∙ ap (answered setup logs me message.from message.wants) takes.before_is ∙ answered_gives setup logs me message.from message.wants middle in
-    let room : length old.log + length accepts + length gives < 2 ^ 32 = omega (arith, short, ap (λ (p : Standing). length p.log) is, logged_length me gives middle, logged_length me accepts start) in
+    let first_few : length accepts ≤ 16 = omega (arith, accepts_few me applied, applied_few old.cut message.items applied takes.admitted, fits.few_items) in
+    let last_few : length gives ≤ 8 = omega (arith, gives_few setup logs me message.from message.wants middle, fits.few_wants) in
     let placed = applied_placed (IsPlaced setup.replicas) old.cut message.items applied takes.admitted fits.placed in
-    let one : LogNames setup me first = all_logged_names setup me accepts start (accepts_name setup me applied placed) (omega (arith, room)) (record { place = own.place; wide = long ∙ own.wide; log = own.log }) in
-    let two : LogNames setup me last = all_logged_names setup me gives middle (gives_name setup logs me message.from message.wants middle fits.sender fits.wants) (omega (arith, room, logged_length me accepts start))
+    let one : LogNames setup me first = all_logged_names setup me accepts start (accepts_name setup me applied placed) (omega (arith, room, first_few)) (record { place = own.place; wide = long ∙ own.wide; log = own.log }) in
+    let two : LogNames setup me last = all_logged_names setup me gives middle (gives_name setup logs me message.from message.wants middle fits.sender fits.wants) (omega (arith, room, first_few, last_few, logged_length me accepts start))
     (record { place = one.place; wide = one.wide; log = one.log }) in
     let before = logged_keeps me accepts start in
     let after = logged_keeps me gives middle in

@@ -17,12 +17,12 @@ use Rattle.run_model.specs.Allowed.{span_given}
 use Rattle.run_model.specs.Balance.{IsConserved}
 use Rattle.run_model.specs.Fitting.{BodyFits, ItemFits}
 use Rattle.run_model.specs.Holding.{held_right, mode_of}
-use Rattle.run_model.specs.Logs.{IsIn, Logs, item_at, log_at}
+use Rattle.run_model.specs.Logs.{IsIn, Logs, cut_after, item_at, log_at}
 use Rattle.run_model.specs.Passing.{can_accept}
 use Rattle.run_model.specs.Points.{piece_point, point_count, points_all}
 use Rattle.run_model.specs.Rights.{held_count, piece_count}
 use Rattle.run_model.specs.Shares.{GivesIn, HasOneMode}
-use Rattle.run_model.specs.Steps.{cut_after, unseen}
+use Rattle.run_model.specs.Steps.{unseen}
 use Rattle.run_model.specs.Worlds.{Standing}
 use Rattle.run_model.proofs.Alike.{right_alike}
 use Rattle.run_model.proofs.Answers.{IsPart}

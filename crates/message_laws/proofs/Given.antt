@@ -13,15 +13,15 @@ use Rattle.spec_model.specs.declared.log.LogItem.{LogItem}
 use Rattle.spec_model.specs.Universe.{below}
 use Rattle.run_model.specs.Fitting.{ItemFits}
 use Rattle.run_model.specs.Locals.{Knows}
-use Rattle.run_model.specs.Logs.{Logs, item_at, items_in, log_at, own_in}
+use Rattle.run_model.specs.Logs.{Logs, cut_after, item_at, items_in, log_at, own_in}
 use Rattle.run_model.specs.Rights.{flight_of, out_of, same_right}
-use Rattle.run_model.specs.Steps.{accepts_of, cut_after, unseen}
+use Rattle.run_model.specs.Steps.{accepts_of, unseen}
 use Rattle.run_model.specs.Worlds.{Standing, logged_all}
 use Rattle.run_model.proofs.Answers.{IsPart}
 use Rattle.run_model.proofs.Growth.{IsStanding}
-use Rattle.run_model.proofs.Kept.{IsNext}
 use Rattle.run_model.proofs.Lists.{each_weaker}
 use Rattle.run_model.proofs.Premises.{AreHeld}
+use Rattle.run_model.proofs.Taken.{IsNext}
 use Rattle.message_laws.specs.Views.{View, standing_in}
 use Rattle.message_laws.proofs.Accepting.{AddsAtMost, AreThere, count_after}
 use Rattle.message_laws.proofs.Flight.{HasSeen, count_at, full_cut, gives_to, part_in_flight}

@@ -9,6 +9,8 @@ pub mod Runs
 pub mod Wanted
 pub mod Logged
 pub mod Answered
+pub mod Drafted
+pub mod Stopped
 pub mod Sent
 pub mod Rights
 pub mod Limits

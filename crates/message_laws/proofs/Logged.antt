@@ -1,5 +1,5 @@
 -- The items that a replica logs name what there is: replicas, rights and instances that fit.
-use Rattle.std.proofs.Common.{◌≡◌, ℕ, ◌+◌, ◌<◌, ◌^◌, List, [], ◌∷◌, ◌++◌, length, refl, sym, ◌∙◌, arith, length-set}
+use Rattle.std.proofs.Common.{◌≡◌, ℕ, ◌+◌, ◌<◌, ◌≤◌, ◌^◌, List, [], ◌∷◌, ◌++◌, length, refl, sym, ◌∙◌, arith, length-append, length-set}
 use Rattle.std.specs.Prelude.{Some, None, Option, ◌==◌}
 use Rattle.std.specs.List.{AllByRecursion}
 use Rattle.std.proofs.lemmas.Bool.{cond_both}
@@ -87,6 +87,19 @@ accepts_name setup me items placed = accepts_each (BodyNames setup) me items (bo
     both [] all = tt
     both (x ∷ items) all = ((all.0.origin, all.0.small), both items all.1)
 
+-- of each item at most one thing is accepted
+accept_few : (me origin index : ℕ) (b : Body) → length (accept_of me origin index b) ≤ 1
+accept_few me origin index (body.Act inst) = omega arith
+accept_few me origin index (body.Out to r given) = cond_both (to == me) (body.Accept origin index ∷ []) [] (λ (l : List Body). length l ≤ 1) (λ mine. omega arith) (λ others. omega arith)
+accept_few me origin index (body.Accept from at) = omega arith
+
+pub accepts_few : (me : ℕ) (items : List LogItem) → length (accepts_of me items) ≤ length items
+accepts_few me [] = omega arith
+accepts_few me (x ∷ items) =
+    let one = accept_few me x.origin x.index x.body in
+    let rest = accepts_few me items in
+    omega (arith, one, rest, length-append (accept_of me x.origin x.index x.body) (accepts_of me items))
+
 -- ---- answers to wants
 
 -- what is given to each want in turn
@@ -112,3 +125,17 @@ gives_name setup logs me to (w ∷ wants) p peer all =
     let o : Option Piece = piece_for (holding setup logs me p (need_of w)) w.ask in
     let q : Standing = logged_all me (given o to w.right) p in
     each_append (BodyNames setup) (given o to w.right) (gives_for setup logs me to wants q) (given_names setup to w.right o peer all.0.of (λ pc is. piece_ordered setup logs me p.log w.right w.ask pc is)) (gives_name setup logs me to wants q peer all.1)
+
+-- at most one piece is given to each want
+given_few : (o : Option Piece) (to : ℕ) (r : Right) → length (given o to r) ≤ 1
+given_few None to r = omega arith
+given_few (Some pc) to r = omega arith
+
+pub gives_few : (setup : Setup) (logs : Logs) (me to : ℕ) (wants : List Want) (p : Standing) → length (gives_for setup logs me to wants p) ≤ length wants
+gives_few setup logs me to [] p = omega arith
+gives_few setup logs me to (w ∷ wants) p =
+    let o : Option Piece = piece_for (holding setup logs me p (need_of w)) w.ask in
+    let q : Standing = logged_all me (given o to w.right) p in
+    let one = given_few o to w.right in
+    let rest = gives_few setup logs me to wants q in
+    omega (arith, one, rest, length-append (given o to w.right) (gives_for setup logs me to wants q))

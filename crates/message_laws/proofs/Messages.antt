@@ -9,9 +9,11 @@ use Rattle.spec_model.specs.declared.log.LogItem.{LogItem}
 use Rattle.run_model.specs.Fitting.{AreInRow, ItemFits, MessageFits}
 use Rattle.run_model.specs.Locals.{Local, StandsIn}
 use Rattle.run_model.specs.Logs.{Logs, item_at, log_at}
+use Rattle.run_model.specs.Steps.{links_of}
 use Rattle.run_model.specs.Worlds.{Standing, World, logs_of}
 use Rattle.run_model.proofs.Answers.{IsPart, IsSentTo}
-use Rattle.run_model.proofs.Kept.{IsKept, heard_from}
+use Rattle.run_model.proofs.Changed.{IsKept}
+use Rattle.run_model.proofs.Kept.{heard_from}
 use Rattle.run_model.proofs.Lists.{each_at, get_behind, get_front}
 use Rattle.run_model.proofs.Own.{own_at}
 use Rattle.run_model.proofs.Premises.{AreHeld}
@@ -28,7 +30,7 @@ use Rattle.message_laws.proofs.Lists.{each_place}
 use Rattle.message_laws.proofs.Onway.{IsSender}
 use Rattle.message_laws.proofs.Pieces.{item_fits}
 use Rattle.message_laws.proofs.Limits.{AreSmall}
-use Rattle.message_laws.proofs.Sent.{AreFit, all_fit, sent_well}
+use Rattle.message_laws.proofs.Sent.{AreFit, all_fit, hears_named, sent_well}
 
 -- a replica that stands in the world of a run
 is_here : (setup : Setup) (world : World) (me : ℕ) (l : Local) → AreSmall setup (logs_of world) → AreHeld setup (logs_of world) → Keeps setup world → StandsIn world me l → IsHere setup (logs_of world) me l.standing l.known
@@ -59,20 +61,21 @@ part_fits setup world from q items small held fit at is = each_place (ItemFits s
     let place : ℕ = length is.front + k in
     let here : slice_get q.log place ≡ Some x = part_at q.log items is k x there in
     let among : item_at (logs_of world) from place ≡ Some x = ap (λ (l : List LogItem). slice_get l place) (logs_there world from q at) ∙ here in
-    item_fits setup (logs_of world) from place x small held among (each_at _ q.log place x (fit from q at).log here))
+    item_fits setup (logs_of world) from place x small held among (each_at _ q.log place x (fit from q at).stands.log here))
 
 -- a message is heeded whole, where what is needed fits
 pub messages_heeded : NeedsFit → MessagesAreHeeded
-messages_heeded need setup entries world me l from number sent message settled few asked runs stands short hears is =
+messages_heeded need setup ups entries world me l from number sent message settled few all asked runs stands short hears is =
     let logs : Logs = logs_of world in
     let p : Standing = l.standing in
-    let keeps = run_keeps setup entries world runs in
+    let keeps = run_keeps setup ups entries world all runs in
     let kept : IsKept setup.replicas world = keeps.kept in
     let held : AreHeld setup logs = keeps_held setup world settled.fits.some keeps in
     let small : AreSmall setup logs = record { well = settled.fits.spec; few = few; short = short } in
-    let fit = all_fit need setup entries world settled.fits asked short runs in
-    let well : IsSentWell setup me message = sent_well need setup entries world me from number sent message settled.fits asked short runs hears is in
-    let f = heard_from setup.replicas world from number me sent kept (hears.1 ∙ sym hears.2) in
+    let fit = all_fit need setup ups entries world settled.fits all asked short runs in
+    let named = hears_named (links_of world) me from number p.running sent hears in
+    let well : IsSentWell setup me message = sent_well setup world me from number sent message kept fit.1 named is in
+    let f = heard_from setup.replicas world from number me sent kept named in
     let q : Standing = f.0 in
     let what : IsSentTo from q.log sent.to (Some message) = subst (λ m. IsSentTo from q.log sent.to m) is f.2 in
     let log : log_at logs from ≡ q.log = logs_there world from q f.1 in

@@ -1,24 +1,23 @@
 -- What a replica of a run knows once it has applied what is on its way to it.
-use Rattle.std.proofs.Common.{◌≡◌, ◌≢◌, ℕ, ◌+◌, ◌<◌, ◌≤◌, List, [], ◌∷◌, ◌++◌, length, refl, sym, ap, subst, ◌∙◌, arith}
-use Rattle.std.specs.Prelude.{slice_get, slice_index, Some, None}
+use Rattle.std.proofs.Common.{◌≡◌, ◌≢◌, inr, ℕ, ◌+◌, ◌<◌, ◌≤◌, List, [], ◌∷◌, ◌++◌, length, refl, sym, ap, subst, ◌∙◌, arith}
+use Rattle.std.specs.Prelude.{slice_get, slice_index, Some}
 use Rattle.std.specs.List.{AllByRecursion}
 use Rattle.std.proofs.lemmas.List.{append-nil}
 use Rattle.std.proofs.lemmas.Option.{slice_get_within}
 use Rattle.spec_model.specs.declared.log.Body.TheVariants as body
 use Rattle.spec_model.specs.declared.log.LogItem.{LogItem}
-use Rattle.run_model.specs.declared.step.Ask.TheVariants as asks
 use Rattle.run_model.specs.Fitting.{AreInRow}
 use Rattle.run_model.specs.Locals.{Knows}
-use Rattle.run_model.specs.Logs.{LiesWithin, Logs, item_at, log_at, with_item}
-use Rattle.run_model.specs.Steps.{AreReady, accepts_of, cut_after, unseen}
+use Rattle.run_model.specs.Logs.{LiesWithin, Logs, cut_after, item_at, log_at, with_item}
+use Rattle.run_model.specs.Steps.{AreReady, accepts_of, unseen}
 use Rattle.run_model.specs.Worlds.{Standing, logged_all}
 use Rattle.run_model.proofs.Alike.{AllAlike, IsAlike, logged_all_agree}
 use Rattle.run_model.proofs.Answers.{IsPart}
 use Rattle.run_model.proofs.Growth.{IsSeen, IsStanding, counts_within, seen_later, within_later}
-use Rattle.run_model.proofs.Kept.{IsNext}
-use Rattle.run_model.proofs.Known.{all_alike, learns_taken}
+use Rattle.run_model.proofs.Known.{all_alike, learns_taken, with_row}
 use Rattle.run_model.proofs.Lists.{each_weaker, get_drop, get_front, get_take}
 use Rattle.run_model.proofs.Own.{admitted_next, cut_after_own, own_at, own_drop, own_front}
+use Rattle.run_model.proofs.Taken.{IsNext}
 use Rattle.message_laws.specs.Heeded.{with_items}
 use Rattle.message_laws.proofs.Lists.{each_place}
 use Rattle.message_laws.proofs.Logged.{accepts_each}
@@ -81,7 +80,8 @@ pub known_alike : (logs : Logs) (me from : ℕ) (known : Logs) (applied : List L
 known_alike logs me from known applied p q stands knows long next same =
     let cut : List ℕ = cut_after p.cut applied in
     let learned : Logs = with_items from applied known in
-    let knows' : Knows logs cut learned = learns_taken logs me p.cut applied known (asks.Take from None) next long knows in
+    let knows' : Knows logs cut learned =
+    subst (Knows logs cut) (with_row from (slice_index p.cut from) applied known next.own (omega (arith, next.place, long))) (learns_taken logs me p.cut applied known (inr (from, next)) long knows) in
     let counts = cut_after_own from p.cut applied (slice_index p.cut from) next.own next.place refl in
     let above = counts_within from p.cut cut (length applied) counts in
     let old : AllAlike learned logs p.log =

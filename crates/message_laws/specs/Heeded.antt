@@ -10,12 +10,12 @@ use Rattle.spec_model.specs.declared.log.Body.{Body}
 use Rattle.spec_model.specs.declared.log.Body.TheVariants as body
 use Rattle.spec_model.specs.declared.log.LogItem.{LogItem}
 use Rattle.run_model.specs.declared.message.Message.{Message}
-use Rattle.run_model.specs.Logs.{Logs, log_at}
+use Rattle.run_model.specs.Logs.{Logs, cut_after, log_at}
 use Rattle.run_model.specs.Holding.{held_right}
 use Rattle.run_model.specs.Allowed.{span_given}
 use Rattle.run_model.specs.Passing.{can_accept}
 use Rattle.run_model.specs.Fitting.{AreInRow, ItemFits, WantFits}
-use Rattle.run_model.specs.Steps.{AreReady, accepts_of, cut_after, unseen}
+use Rattle.run_model.specs.Steps.{AreReady, accepts_of, unseen}
 use Rattle.run_model.specs.Worlds.{Standing, logged_all, no_cut}
 use Rattle.message_laws.specs.Views.{View, standing_in}
 

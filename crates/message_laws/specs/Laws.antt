@@ -1,5 +1,5 @@
 -- Laws of what is needed, and of messages in runs.
-use Rattle.std.specs.Prelude.{◌≡◌, ℕ, ◌≤◌, List, length, Some}
+use Rattle.std.specs.Prelude.{◌≡◌, ℕ, ◌≤◌, Bool, List, length, Some}
 use Rattle.std.specs.List.{AllByRecursion}
 use Rattle.spec_model.specs.declared.plan.Setup.{Setup}
 use Rattle.spec_model.specs.declared.instance.Inst.{Inst}
@@ -23,10 +23,10 @@ use Rattle.message_laws.specs.Views.{view_in}
 abbrev pub NeedsFit : Type 0
 NeedsFit = (setup : Setup) (s : Truths) (inst : Inst) → SetupFits setup → InstFits setup.spec inst → AllByRecursion (NeedFits setup) (needs setup s inst)
 
--- in a run of at most 16 replicas by a plan that is enough, whose asks fit, and whose replicas log at most 2 ^ 22 items each, each replica heeds whole what was sent to it
+-- in a run of at most 16 replicas by a plan that is enough, whose asks fit, and whose replicas log at most 2 ^ 22 items each, each replica that is up heeds whole what was sent to it
 abbrev pub MessagesAreHeeded : Type 0
-MessagesAreHeeded = (setup : Setup) (entries : List StepEntry) (world : World) (me : ℕ) (l : Local) (from number : ℕ) (sent : Sending) (message : Message)
-    → IsSettled setup → setup.replicas ≤ 16 → AsksFit setup.spec entries → Runs setup (first_world setup.replicas) entries world
+MessagesAreHeeded = (setup : Setup) (ups : List Bool) (entries : List StepEntry) (world : World) (me : ℕ) (l : Local) (from number : ℕ) (sent : Sending) (message : Message)
+    → IsSettled setup → setup.replicas ≤ 16 → length ups ≡ setup.replicas → AsksFit setup.spec entries → Runs setup (first_world setup.replicas ups) entries world
     → StandsIn world me l → ((j : ℕ) → length (log_at (logs_of world) j) ≤ 4194304)
-    → Hears (links_of world) me (asks.Take from (Some number)) (Some sent) → sent.message ≡ Some message
+    → Hears (links_of world) me (asks.Take from (Some number)) l.standing.running (Some sent) → sent.message ≡ Some message
     → IsHeededWhole setup (view_in me l) message

@@ -6,7 +6,7 @@ use Rattle.spec_model.specs.declared.log.Body.{Body}
 use Rattle.spec_model.specs.declared.log.Body.TheVariants as body
 use Rattle.spec_model.specs.declared.log.LogItem.{LogItem}
 use Rattle.run_model.specs.Logs.{Logs, LiesWithin, log_at}
-use Rattle.run_model.specs.Worlds.{Standing}
+use Rattle.run_model.specs.Worlds.{Standing, Up}
 use Rattle.run_model.specs.Locals.{Local}
 use Rattle.run_model.specs.Fitting.{AreInRow, ItemFits}
 
@@ -30,7 +30,7 @@ item_of v b = record { origin = v.me; index = length (own_items v); deps = v.cut
 
 -- how it stands, had it wanted, been told and sent nothing
 abbrev pub standing_in : View → Standing
-standing_in v = record { log = own_items v; cut = v.cut; stamp = 0; wants = []; told = []; sendings = [] }
+standing_in v = record { log = own_items v; cut = v.cut; stamp = 0; wants = []; told = []; sendings = []; running = Up; kept = [] }
 
 -- what replica me of a run decides by
 abbrev pub view_in : ℕ → Local → View

@@ -1,5 +1,5 @@
 -- How long the text of a batch can be.
-use Rattle.std.proofs.Common.{◌≡◌, ℕ, ◌+◌, ◌*◌, ◌≤◌, ◌<◌, List, [], ◌∷◌, ◌++◌, length, ap, arith, length-append}
+use Rattle.std.proofs.Common.{◌≡◌, ℕ, ◌*◌, ◌≤◌, ◌<◌, List, [], ◌∷◌, ◌++◌, length, ap, arith, length-append}
 use Rattle.std.specs.List.{flat_map, AllByRecursion}
 use Rattle.std.proofs.lemmas.List.Concat.{flat_map-cons}
 use Rattle.byteorder.specs.Numbers.{length-bytes_high_first}
@@ -11,7 +11,7 @@ use Rattle.spec_model.specs.declared.right.Piece.{Piece}
 use Rattle.spec_model.specs.declared.right.Piece.TheVariants as piece
 use Rattle.spec_model.specs.declared.right.Right.{Right}
 use Rattle.spec_model.specs.declared.right.Right.TheVariants as right
-use Rattle.op_records.specs.Spelling.{number, args_text, span_text, spans_text, mode_code, right_text, piece_text, body_text, item_text, batch_text, AreArgs, AreSpans, IsRight, IsBody, IsItem, IsBatch}
+use Rattle.op_records.specs.Spelling.{number, args_text, span_text, spans_text, mode_code, right_text, piece_text, body_text, item_text, batch_text, AreArgs, IsRight, IsBody, IsItem, IsBatch}
 
 length-number : (n x : ℕ) → length (number n x) ≡ n
 unfolding number

@@ -1,4 +1,4 @@
--- The items that the replicas of a run log have a spelling.
+-- The items that are small, and those that the replicas of a run log, have a spelling.
 use Rattle.std.proofs.Common.{◌≡◌, ℕ, ◌<◌, ◌≤◌, ◌^◌, length, sym, ap, ◌∙◌, arith}
 use Rattle.std.specs.Prelude.{slice_index, Some}
 use Rattle.std.proofs.lemmas.Option.{get_or_from_slice_get, slice_get-get_or}
@@ -19,7 +19,7 @@ use Rattle.message_laws.proofs.Limits.{AreSmall}
 use Rattle.message_laws.proofs.NeedsFit.{needs_fit}
 use Rattle.message_laws.proofs.Pieces.{item_fits}
 use Rattle.message_laws.proofs.Sent.{all_fit}
-use Rattle.op_records.specs.Logged.{LoggedIsSpelled}
+use Rattle.op_records.specs.Logged.{FitIsSpelled, IsSmall, LoggedIsSpelled}
 use Rattle.op_records.specs.Spelling.{IsBody, IsItem}
 use Rattle.op_records.proofs.Rightful.{piece_spelled, right_spelled}
 use Rattle.op_records.proofs.Small.{args_small, params_few}
@@ -34,40 +34,50 @@ body_spelled setup (body.Out to r given) fits few h =
     (h.0, right_spelled setup r fits h.1, of.0, of.1)
 body_spelled setup (body.Accept from index) fits few h = (h.0, omega (arith, h.1))
 
--- an item of short logs that fits has a spelling
-item_spelled : (setup : Setup) (logs : Logs) (i k : ℕ) (item : LogItem) → SetupFits setup → setup.replicas ≤ 8 → ((j : ℕ) → length (log_at logs j) ≤ 4194304) → AreLogs logs → item_at logs i k ≡ Some item → ItemFits setup item → IsItem setup.replicas item
-item_spelled setup logs i k item fits few short are is h =
-    let named = are.named i k item is in
-    let placed = h.placed in
-    let past = are.past i k item is in
-    let before : slice_index item.deps item.origin ≡ item.index = ap (slice_index item.deps) named.0 ∙ are.before i k item is ∙ sym named.1 in
+-- an item that is small has a spelling
+item_spelled : (setup : Setup) (item : LogItem) → SetupFits setup → setup.replicas ≤ 8 → IsSmall setup item → IsItem setup.replicas item
+item_spelled setup item fits few h =
+    let placed = h.fits.placed in
     record {
       origin = placed.origin;
       index = omega (arith, placed.small);
       past = placed.past;
-      small = each_place (λ n. n < 2 ^ 32) item.deps (λ j n at.
-          let count : slice_index item.deps j ≡ n = get_or_from_slice_get item.deps j n 0 at in
-          omega (arith, count, past.within j, short j));
-      own = slice_get-get_or item.deps item.origin 0 (omega (arith, placed.origin, placed.past)) ∙ ap (λ n. Some n) before;
-      body = body_spelled setup item.body fits few h.body;
+      small = h.past;
+      own = slice_get-get_or item.deps item.origin 0 (omega (arith, placed.origin, placed.past)) ∙ ap (λ n. Some n) h.before;
+      body = body_spelled setup item.body fits few h.fits.body;
     }
 
 -- and so has each batch of them
-pub logged_spelled : LoggedIsSpelled
-logged_spelled setup entries world items settled few asked runs short some upto there =
-    let logs : Logs = logs_of world in
-    let fits : SetupFits setup = settled.fits in
-    let keeps = run_keeps setup entries world runs in
-    let held : AreHeld setup logs = keeps_held setup world fits.some keeps in
-    let small : AreSmall setup logs = record { well = fits.spec; few = omega (arith, few); short = short } in
-    let fit = all_fit needs_fit setup entries world fits asked short runs in
+pub fit_spelled : FitIsSpelled
+fit_spelled setup items fits few some upto small = record {
+  some = some;
+  few = upto;
+  some_replicas = omega (arith, fits.some);
+  few_replicas = few;
+  each = each_weaker (IsSmall setup) (IsItem setup.replicas) (λ item h. item_spelled setup item fits few h) items small;
+}
+
+-- an item of short logs that fits is small
+logged_small : (setup : Setup) (logs : Logs) (i k : ℕ) (item : LogItem) → ((j : ℕ) → length (log_at logs j) ≤ 4194304) → AreLogs logs → item_at logs i k ≡ Some item → ItemFits setup item → IsSmall setup item
+logged_small setup logs i k item short are is fits =
+    let named = are.named i k item is in
+    let past = are.past i k item is in
     record {
-      some = some;
-      few = upto;
-      some_replicas = omega (arith, fits.some);
-      few_replicas = few;
-      each = each_weaker _ (IsItem setup.replicas) (λ item at.
-          let o = item_owner world at.0 at.1 item at.2 in
-          let names = each_at _ o.0.log at.1 item (fit.1 at.0 o.0 o.1).log o.2 in
-          item_spelled setup logs at.0 at.1 item fits few short held.named at.2 (item_fits setup logs at.0 at.1 item small held at.2 names)) items there;
+      fits = fits;
+      past = each_place (λ n. n < 2 ^ 32) item.deps (λ j n at.
+          let count : slice_index item.deps j ≡ n = get_or_from_slice_get item.deps j n 0 at in
+          omega (arith, count, past.within j, short j));
+      before = ap (slice_index item.deps) named.0 ∙ are.before i k item is ∙ sym named.1;
     }
+
+-- so a batch of items that a run logged has a spelling
+pub logged_spelled : LoggedIsSpelled
+logged_spelled setup ups entries world items fits few all asked runs short some upto there =
+    let logs : Logs = logs_of world in
+    let held : AreHeld setup logs = keeps_held setup world fits.some (run_keeps setup ups entries world all runs) in
+    let small : AreSmall setup logs = record { well = fits.spec; few = omega (arith, few); short = short } in
+    let fit = all_fit needs_fit setup ups entries world fits all asked short runs in
+    fit_spelled setup items fits few some upto (each_weaker _ (IsSmall setup) (λ item at.
+    let o = item_owner world at.0 at.1 item at.2 in
+    let names = each_at _ o.0.log at.1 item (fit.1 at.0 o.0 o.1).stands.log o.2 in
+    logged_small setup logs at.0 at.1 item short held.named at.2 (item_fits setup logs at.0 at.1 item small held at.2 names)) items there)

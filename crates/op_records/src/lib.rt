@@ -6,6 +6,6 @@ mod laws;
 mod reading;
 mod writing;
 
-pub use laws::{batches_are_short, logged_is_spelled, one_batch};
+pub use laws::{batches_are_short, fit_is_spelled, logged_is_spelled, one_batch};
 pub use reading::decode_items;
 pub use writing::encode_items;
