@@ -1,5 +1,5 @@
 -- A journal while a batch is added to it.
-use Rattle.std.proofs.Common.{◌≡◌, ◌≢◌, ◌⊎◌, inl, inr, ℕ, ◌+◌, ◌≤◌, max, List, [], ◌∷◌, ◌++◌, length, ◌∙◌, ap, arith, append_assoc, length-append}
+use Rattle.std.proofs.Common.{◌≡◌, ◌≢◌, ◌⊎◌, inl, inr, ℕ, ◌+◌, ◌*◌, ◌≤◌, max, List, [], ◌∷◌, ◌++◌, length, ◌∙◌, ap, arith, append_assoc, length-append}
 use Rattle.std.specs.List.{AllByRecursion}
 use Rattle.std.proofs.lemmas.Bool.{cases_eq}
 use Rattle.rights_journal.specs.Image.{sized, opened, IsFinished, IsBetween, IsWithin}
@@ -39,7 +39,11 @@ module _ (replicas : ℕ) (batches : List Batch) (batch : Batch) (each : AllByRe
       at_gate (inr (gate, more, is)) = at_any gate more is
 
   -- and it isn't longer than a journal of so many batches and one lost frame
+  pub fits : (gate size : ℕ) → gate ≡ length (opened replicas batches) → size ≤ 64 + 7000 * (length batches + 1)
+      → max size (gate + 1 + length (framed replicas batch)) ≤ 64 + 7000 * (length batches + 1)
+  fits gate size place within =
+      omega (arith, place, within, frames_short replicas batches each, (short replicas batch here).1, length-append (sized (text_of replicas batch)) (0 ∷ []))
+
   pub stays_within : (gate size : ℕ) (old c : List ℕ) → gate ≡ length (opened replicas batches)
       → length c ≤ max (length old) (gate + 1 + length (framed replicas batch)) → IsWithin (length batches) old → IsWithin (length batches) c
-  stays_within gate size old c place long within =
-      omega (arith, place, long, within, frames_short replicas batches each, (short replicas batch here).1, length-append (sized (text_of replicas batch)) (0 ∷ []))
+  stays_within gate size old c place long within = omega (arith, long, fits gate (length old) place within)

@@ -1,10 +1,10 @@
-mod Texts
-mod Moments
-mod Places
-mod Fresh
-mod Frames
-mod Once
-mod Added
-mod Stored
-mod Headers
-mod Starts
+pub mod Texts
+pub mod Moments
+pub mod Places
+pub mod Fresh
+pub mod Frames
+pub mod Once
+pub mod Added
+pub mod Stored
+pub mod Headers
+pub mod Starts

@@ -1,5 +1,5 @@
 -- What a stored frame makes of a journal.
-use Rattle.std.proofs.Common.{◌≡◌, ℕ, ◌+◌, ◌≤◌, max, List, [], ◌∷◌, ◌++◌, length, refl, sym, ◌∙◌, ap, subst, arith, length-append, true, false}
+use Rattle.std.proofs.Common.{◌≡◌, ℕ, ◌+◌, ◌*◌, ◌≤◌, max, List, [], ◌∷◌, ◌++◌, length, refl, sym, ◌∙◌, ap, subst, arith, length-append, true, false}
 use Rattle.std.specs.Prelude.{Bool, IsTrue}
 use Rattle.ind_disk.specs.Disk.{LeavesOnly}
 use Rattle.rights_journal.specs.Image.{sized, opened, IsFinished, IsBetween, IsWithin}
@@ -8,7 +8,7 @@ use Rattle.rights_journal.specs.Appending.{framed, IsBeforeOrAfter}
 use Rattle.rights_journal.proofs.Moments.{weaker}
 use Rattle.rights_journal.proofs.Frames.{opened_push}
 use Rattle.rights_journal.proofs.Once.{finished_once}
-use Rattle.rights_journal.proofs.Added.{opens, between, stays_within}
+use Rattle.rights_journal.proofs.Added.{opens, between, fits, stays_within}
 use Rattle.run_model.specs.declared.batch.Batch.{Batch}
 use Rattle.rights_journal.specs.Batches.{IsSpelled, text_of}
 
@@ -51,6 +51,12 @@ module _ (replicas : ℕ)
   pub ends_within : (batches found : List Batch) → IsFinished replicas batches bytes → IsRead replicas found gate bytes → (size new_size : ℕ) (new_bytes : List ℕ) → size ≡ length bytes
       → IsWithin (length batches) bytes → new_size ≡ max size (gate + 1 + length frame) → length new_bytes ≡ new_size → IsWithin (length batches) new_bytes
   ends_within batches found fin read size new_size new_bytes sizes within grown counts = longest_within batches found fin read size sizes within new_bytes (omega (arith, grown, counts))
+
+  -- nor is the size with one batch more
+  pub adds_little : (batches found : List Batch) → IsFinished replicas batches bytes → IsRead replicas found gate bytes → (size : ℕ) → size ≡ length bytes → IsWithin (length batches) bytes
+      → max size (gate + 1 + length frame) ≤ 64 + 7000 * (length batches + 2)
+  adds_little batches found fin read size sizes within =
+      omega (arith, sizes, ap length is, fits replicas batches batch fin.each here gate (length bytes) (sym (found_at batches found fin read)) within)
 
   -- at the end
   pub stored_added : (new_bytes : List ℕ) (batches found : List Batch) → IsFinished replicas batches bytes → IsRead replicas found gate bytes

@@ -6,3 +6,4 @@ pub mod Law
 pub mod Appending
 pub mod Kept
 pub mod Starting
+pub mod Again

@@ -1,6 +1,8 @@
 //! The journal.
 
 ghost use Rattle.std.specs.Prelude.{◌≡◌, ◌⊎◌, ◌<◌, ◌≤◌, ◌+◌, ◌^◌, ◌++◌, [], ◌∷◌, List, ℕ, false, true, length, max, IsTrue, IsErrOf, IfOk, IfErr, OnOk, OnErr};
+ghost use Rattle.std.proofs.Common.{inl, inr, refl};
+ghost use Rattle.std.proofs.Math.Nat.{le-add_right};
 ghost use Rattle.ind_disk.specs.Disk.{Only, Leaves, LeavesOnly, MakesRoom};
 ghost use Rattle.ind_disk.specs.declared.disk.DiskError.TheVariants as disk_errors;
 ghost use Rattle.rights_journal.specs.declared.journal.AppendError.TheVariants as append_errors;
@@ -256,6 +258,14 @@ impl<D: Disk + Drop> Keeps for Journal<D> {
 
     ghost size_with = { λ j b. max (D.standing j.disk).size (j.gate + 1 + length (framed j.replicas b)) };
 
+    ghost finished_stands = { λ replicas batches bytes fin. inr fin };
+
+    ghost nothing_stands = { λ replicas. inl (inl (le-add_right 0 1), refl) };
+
+    ghost spelled = { λ replicas batch is. is };
+
+    ghost fresh_within = { le-add_right 10 7054 };
+
     ghost settled = { λ j kept. kept.settled };
 
     ghost awake = { λ j kept. kept.awake };
@@ -276,7 +286,9 @@ impl<D: Disk + Drop> Keeps for Journal<D> {
         Journal::<D>::into_disk(self)
     }
 
-    fn never_both() {
+    fn one_thing() {
         one_thing()
     }
+
+    fn adds_little() {}
 }

@@ -1,10 +1,11 @@
 //! What is asked of a journal, whatever its format.
 
-ghost use Rattle.std.specs.Prelude.{◌≡◌, ◌⊎◌, ◌<◌, ◌≤◌, ◌+◌, ◌^◌, ◌++◌, [], ◌∷◌, List, ℕ, Bool, true, false, length, IsTrue, IsErrOf, IfOk, IfErr, OnOk, OnErr};
+ghost use Rattle.std.specs.Prelude.{◌≡◌, ◌⊎◌, ◌<◌, ◌≤◌, ◌+◌, ◌*◌, ◌^◌, ◌++◌, [], ◌∷◌, List, ℕ, Bool, true, false, length, IsTrue, IsErrOf, IfOk, IfErr, OnOk, OnErr};
 ghost use Rattle.ind_disk.specs.Disk.{Only, LeavesOnly};
 ghost use Rattle.rights_journal.specs.declared.journal.AppendError.TheVariants as append_errors;
 ghost use Rattle.rights_journal.specs.declared.starting.StartWhy.TheVariants as whys;
 ghost use Rattle.rights_journal.specs.Image.{IsWithin};
+ghost use Rattle.op_records.specs.Spelling.{IsBatch};
 ghost use Rattle.run_model.specs.declared.batch.Batch.{Batch as BatchOf};
 ghost use Rattle.rights_journal.specs.Kept.{Spends};
 ghost use Rattle.rights_journal.specs.Starting.{StartsNot};
@@ -129,9 +130,27 @@ pub trait Keeps: Sized {
     fn into_disk(self) -> Self::D
         ensures { result ≡ disk_of self };
 
-    /// What stands for batches is never foreign.
-    fn never_both()
-        ensures { (replicas at : ℕ) (batches : List BatchOf) (bytes : List ℕ) → stands_for replicas batches bytes → foreign replicas at bytes → ⊥ };
+    /// Bytes stand for at most one list of batches, and then they aren't foreign.
+    fn one_thing()
+        ensures once { (replicas : ℕ) (xs ys : List BatchOf) (bytes : List ℕ) → stands_for replicas xs bytes → stands_for replicas ys bytes → xs ≡ ys }
+        ensures never_both { (replicas at : ℕ) (batches : List BatchOf) (bytes : List ℕ) → stands_for replicas batches bytes → foreign replicas at bytes → ⊥ };
+
+    /// An append makes a journal at most 7,000 bytes longer than it may be.
+    fn adds_little()
+        ensures { (j : Self) (batches : List BatchOf) (batch : BatchOf) → is_kept j → IsTrue (Self.D.standing (disk_of j)).tells
+            → finished (replicas_of j) batches (Self.D.standing (disk_of j)).bytes → IsWithin (length batches) (Self.D.standing (disk_of j)).bytes
+            → is_batch (replicas_of j) batch → size_with j batch ≤ 64 + 7000 * (length batches + 2) };
+
+    /// A finished journal stands for its batches, and no bytes stand for none.
+    ghost finished_stands: { (replicas : ℕ) (batches : List BatchOf) (bytes : List ℕ) → finished replicas batches bytes → stands_for replicas batches bytes };
+
+    ghost nothing_stands: { (replicas : ℕ) → stands_for replicas [] [] };
+
+    /// A batch with a spelling is one of the journal's.
+    ghost spelled: { (replicas : ℕ) (batch : BatchOf) → IsBatch replicas batch.items → is_batch replicas batch };
+
+    /// What a fresh start makes is no longer than a journal without batches may be.
+    ghost fresh_within: { fresh ≤ 64 + 7000 };
 
     /// Of a live journal nothing is pending, and its disk isn't stopped.
     ghost settled: { (j : Self) → is_kept j → Only (Self.D.standing (disk_of j)).bytes (Self.D.may_leave (disk_of j)) };

@@ -2,6 +2,7 @@
 #![tactic(auto)]
 
 mod afresh;
+mod again;
 mod batches;
 mod journal;
 mod keeps;
@@ -10,6 +11,7 @@ mod reading;
 mod starting;
 mod writing;
 
+pub use again::start_again;
 pub use journal::{AppendError, Journal, StartFailed, Started};
 pub use keeps::Keeps;
 pub use law::{before_or_after, fresh_keeps, one_more, one_thing};

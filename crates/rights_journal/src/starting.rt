@@ -22,7 +22,7 @@ use std::alloc::Global;
 #[derive(Clone, Copy, Debug, PartialEq, Eq)]
 pub enum StartWhy {
     Disk,
-    Foreign(u64),
+    Foreign { at: u64 },
     Memory,
 }
 
@@ -83,12 +83,12 @@ fn read_image(alloc: Global, replicas: u32, bytes: &[u8]) -> Result<Frames, Star
     ensures never { IsErrOf result whys.Disk → ⊥ }
 {
     if !has_header(bytes) {
-        return Err(StartWhy::Foreign(0));
+        return Err(StartWhy::Foreign { at: 0 });
     }
     match frames_of(alloc, replicas, bytes) {
         Ok(frames) => Ok(frames),
         Err(Refusal::Memory) => Err(StartWhy::Memory),
-        Err(Refusal::Foreign(at)) => Err(StartWhy::Foreign(at)),
+        Err(Refusal::Foreign(at)) => Err(StartWhy::Foreign { at }),
     }
 }
 
