@@ -7,8 +7,8 @@ use Rattle.std.proofs.lemmas.List.{drop_all, get_or-set_same, get_or-set_other, 
 use Rattle.std.proofs.lemmas.Bool.{cases_eq, cases_lt, cond-true}
 use Rattle.std.proofs.lemmas.Option.{get_or_from_slice_get, slice_get_within}
 use Rattle.spec_model.specs.declared.log.LogItem.{LogItem}
-use Rattle.run_model.specs.Logs.{LiesWithin, with_item}
-use Rattle.run_model.specs.Steps.{AreAdmitted, AreReady, IsStuck, cut_after, unseen}
+use Rattle.run_model.specs.Logs.{LiesWithin, cut_after, with_item}
+use Rattle.run_model.specs.Steps.{AreAdmitted, AreReady, IsStuck, unseen}
 use Rattle.run_model.specs.Fitting.{AreInRow}
 use Rattle.run_model.proofs.Own.{unseen_own, own_drop}
 use Rattle.causal_delivery.specs.Rows.{AreOfOne, CountsReady, IsSeenBut}

@@ -12,8 +12,8 @@ use Rattle.spec_model.specs.declared.log.LogItem.{LogItem}
 use Rattle.run_model.specs.declared.message.Message.{Message}
 use Rattle.run_model.specs.declared.step.Outcome.TheVariants as outcomes
 use Rattle.run_model.specs.Fitting.{AreInRow, IsPlaced, ItemFits}
-use Rattle.run_model.specs.Logs.{Logs, log_at}
-use Rattle.run_model.specs.Steps.{accept_of, accepts_of, answered, cut_after, dropped, received}
+use Rattle.run_model.specs.Logs.{Logs, cut_after, log_at}
+use Rattle.run_model.specs.Steps.{accept_of, accepts_of, answered, dropped, received}
 use Rattle.run_model.specs.Wants.{still_wanted}
 use Rattle.run_model.specs.Worlds.{Standing, holding, logged, logged_all}
 use Rattle.run_model.proofs.Lists.{each_take, each_weaker}

@@ -17,9 +17,9 @@ use Rattle.spec_model.specs.declared.log.Body.TheVariants as body
 use Rattle.spec_model.specs.declared.log.LogItem.{LogItem}
 use Rattle.run_model.specs.Allowed.{IsHeldPiece, span_given}
 use Rattle.run_model.specs.Holding.{held_of, held_right}
-use Rattle.run_model.specs.Logs.{LiesWithin, Logs, item_at, log_at}
+use Rattle.run_model.specs.Logs.{LiesWithin, Logs, cut_after, item_at, log_at}
 use Rattle.run_model.specs.Passing.{can_accept}
-use Rattle.run_model.specs.Steps.{accept_of, accepts_of, answered, cut_after, given}
+use Rattle.run_model.specs.Steps.{accept_of, accepts_of, answered, given}
 use Rattle.run_model.specs.Wants.{need_of, piece_for}
 use Rattle.run_model.specs.Worlds.{Standing, holding, logged, logged_all}
 use Rattle.run_model.proofs.Lists.{get_behind}

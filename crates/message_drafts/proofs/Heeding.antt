@@ -8,8 +8,8 @@ use Rattle.std.proofs.lemmas.List.{append-nil, append_assoc, take-append-drop, t
 use Rattle.spec_model.specs.declared.plan.Setup.{Setup}
 use Rattle.spec_model.specs.declared.log.LogItem.{LogItem}
 use Rattle.run_model.specs.Fitting.{AreInRow, ItemFits}
-use Rattle.run_model.specs.Steps.{AreAdmitted, AreReady, IsStuck, cut_after, unseen}
-use Rattle.run_model.specs.Logs.{with_item}
+use Rattle.run_model.specs.Steps.{AreAdmitted, AreReady, IsStuck, unseen}
+use Rattle.run_model.specs.Logs.{cut_after, with_item}
 use Rattle.run_model.proofs.Lists.{each_at, each_filter, each_take, get_append, get_drop, get_front, get_last, get_take}
 use Rattle.run_model.proofs.Own.{own_at, own_drop, own_front, unseen_own}
 use Rattle.message_laws.specs.Heeded.{AreHeeded, CanAccept, JoinsAfter, MayApply}

@@ -1,8 +1,8 @@
 //! The items that would be logged.
 
+ghost use Rattle.run_model.specs.Logs.{cut_after};
 ghost use Rattle.std.specs.Prelude.{◌≡◌, ◌+◌, ◌<◌, ◌≤◌, ◌^◌, ◌++◌, All, IfOk, length, slice_index};
 ghost use Rattle.run_model.specs.Fitting.{IsPlaced};
-ghost use Rattle.run_model.specs.Steps.{cut_after};
 ghost use Rattle.run_model.specs.Worlds.{Standing, logged_all};
 
 use ind_base::{Cut, List, NoMemory};

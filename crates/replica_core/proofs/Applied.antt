@@ -18,9 +18,9 @@ use Rattle.run_model.specs.declared.message.Message.{Message}
 use Rattle.run_model.specs.Allowed.{span_given}
 use Rattle.run_model.specs.Fitting.{AreInRow, ItemFits}
 use Rattle.run_model.specs.Holding.{held_right}
-use Rattle.run_model.specs.Logs.{Logs, item_at, log_at, with_item}
+use Rattle.run_model.specs.Logs.{Logs, cut_after, item_at, log_at, with_item}
 use Rattle.run_model.specs.Passing.{can_accept}
-use Rattle.run_model.specs.Steps.{AreAdmitted, AreReady, accept_of, accepts_of, cut_after, unseen}
+use Rattle.run_model.specs.Steps.{AreAdmitted, AreReady, accept_of, accepts_of, unseen}
 use Rattle.run_model.specs.Worlds.{Standing, joined, logged, logged_all}
 use Rattle.run_model.proofs.Alike.{counts_alike}
 use Rattle.run_model.proofs.Lists.{each_append, each_filter, each_weaker, get_behind, get_drop}
@@ -79,7 +79,7 @@ is_new a b h = elim (cases_Bool (nat_lt a b)) [
 ]
 
 -- where a first item was not seen, and its past was, its row goes on where the cut ends
-row_goes_on : (from at : ℕ) (cut : List ℕ) (items applied : List LogItem) → AreInRow from at applied → AreAdmitted cut items applied → AreInRow from (slice_index cut from) applied
+pub row_goes_on : (from at : ℕ) (cut : List ℕ) (items applied : List LogItem) → AreInRow from at applied → AreAdmitted cut items applied → AreInRow from (slice_index cut from) applied
 row_goes_on from at cut items [] row admitted = tt
 row_goes_on from at cut items (x ∷ applied) row admitted =
     let new = (all_new cut items (x ∷ applied) admitted).0 in
@@ -204,7 +204,7 @@ told_of message r = slice_set r.told message.from (joined (slice_index_or r.told
 
 -- how it stands once it has heard and applied
 abbrev pub start_of : Message → Replica → List LogItem → Standing
-start_of message r applied = record (standing_of 0 [] r) { told = told_of message r; cut = cut_after (cut_in r.store) applied }
+start_of message r applied = record (standing_of 0 [] [] r) { told = told_of message r; cut = cut_after (cut_in r.store) applied }
 
 -- the Accepts of one item more
 accepts_push : (me : ℕ) (done : List LogItem) (x : LogItem) → accepts_of me (done ++ x ∷ []) ≡ accepts_of me done ++ accept_of me x.origin x.index x.body

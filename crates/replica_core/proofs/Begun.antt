@@ -11,7 +11,7 @@ use Rattle.spec_model.specs.declared.right.Right.{Right}
 use Rattle.spec_model.specs.declared.right.Want.{Want}
 use Rattle.run_model.specs.Logs.{Logs, log_at}
 use Rattle.run_model.specs.Rights.{even_share, first_total, is_shared}
-use Rattle.run_model.specs.Worlds.{Standing, first_standing, no_cut}
+use Rattle.run_model.specs.Worlds.{Standing, Up, first_standing, no_cut}
 use Rattle.run_model.specs.Fitting.{ItemFits, SetupFits, WantFits}
 use Rattle.causal_store.specs.Stores.{IsStore, cut_in}
 use Rattle.causal_store.proofs.Stored.{no_items_fit}
@@ -109,11 +109,11 @@ first_replica setup me r h =
       told_each = subst (AllByRecursion (λ (c : List ℕ). length c ≡ setup.replicas)) (sym h.told) (all_equal (λ (c : List ℕ). length c ≡ setup.replicas) setup.replicas (no_cut setup.replicas) (length-replicate setup.replicas 0));
     }
 
-pub first_stands : (setup : Setup) (me : ℕ) (r : Replica) → IsFirst setup me r → standing_of 0 [] r ≡ first_standing setup.replicas
+pub first_stands : (setup : Setup) (me : ℕ) (r : Replica) → IsFirst setup me r → standing_of 0 [] [] r ≡ first_standing setup.replicas true
 first_stands setup me r h =
     let own : own_log r ≡ [] = ap (λ (l : Logs). log_at l r.me) h.empty ∙ nothing_at setup.replicas r.me in
     let cut : cut_in r.store ≡ no_cut setup.replicas = h.store.counts ∙ ap (map (λ (l : List LogItem). length l)) h.empty ∙ none_counted setup.replicas in
-    ap (λ (l : List LogItem). let p : Standing = record (standing_of 0 [] r) { log = l } in p) own
-    ∙ ap (λ (c : List ℕ). let p : Standing = record (standing_of 0 [] r) { log = []; cut = c } in p) cut
-    ∙ ap (λ (w : List Want). let p : Standing = record { log = []; cut = no_cut setup.replicas; stamp = 0; wants = w; told = r.told; sendings = [] } in p) h.wants
-    ∙ ap (λ (t : List (List ℕ)). let p : Standing = record { log = []; cut = no_cut setup.replicas; stamp = 0; wants = []; told = t; sendings = [] } in p) h.told
+    ap (λ (l : List LogItem). let p : Standing = record (standing_of 0 [] [] r) { log = l } in p) own
+    ∙ ap (λ (c : List ℕ). let p : Standing = record (standing_of 0 [] [] r) { log = []; cut = c } in p) cut
+    ∙ ap (λ (w : List Want). let p : Standing = record { log = []; cut = no_cut setup.replicas; stamp = 0; wants = w; told = r.told; sendings = []; running = Up; kept = [] } in p) h.wants
+    ∙ ap (λ (t : List (List ℕ)). let p : Standing = record { log = []; cut = no_cut setup.replicas; stamp = 0; wants = []; told = t; sendings = []; running = Up; kept = [] } in p) h.told

@@ -47,7 +47,7 @@ logged_these setup bs cs old new same = subst (λ (xs : List Body). HasLoggedAll
 
 -- the own log is longer by as many
 pub longer_by : (setup : Setup) (bodies : List Body) (old new : Replica) → HasLoggedAll setup bodies old new → length (own_log new) ≡ length (own_log old) + length bodies
-longer_by setup bodies old new h = ap (λ (p : Standing). length p.log) (h.stands 0 []) ∙ logged_length old.me bodies (standing_of 0 [] old)
+longer_by setup bodies old new h = ap (λ (p : Standing). length p.log) (h.stands 0 [] []) ∙ logged_length old.me bodies (standing_of 0 [] [] old)
 
 -- what is known after both is known but for the own log
 pub knows_both : (known : Logs) (mid new : Replica) → new.me ≡ mid.me → KnowsOwn known mid → KnowsOwn (known_to mid) new → KnowsOwn known new
@@ -61,7 +61,7 @@ logged_both setup bs cs old mid new first second =
     let me : mid.me ≡ old.me = first.own.me_is in
     record {
       own = subst (λ i. IsReplica setup i new) me second.own;
-      stands = λ stamp sendings. second.stands stamp sendings ∙ ap (λ i. logged_all i cs (standing_of stamp sendings mid)) me ∙ ap (logged_all old.me cs) (first.stands stamp sendings) ∙ sym (logged_append old.me bs cs (standing_of stamp sendings old));
+      stands = λ stamp sendings kept. second.stands stamp sendings kept ∙ ap (λ i. logged_all i cs (standing_of stamp sendings kept mid)) me ∙ ap (logged_all old.me cs) (first.stands stamp sendings kept) ∙ sym (logged_append old.me bs cs (standing_of stamp sendings kept old));
       knows = knows_both (known_to old) mid new second.own.me_is first.knows second.knows;
     }
 
@@ -71,7 +71,7 @@ own_again setup me r h = subst (λ i. IsReplica setup i r) (sym h.me_is) h
 
 -- nothing is logged at first
 pub logged_nothing : (setup : Setup) (r : Replica) → IsReplica setup r.me r → HasLoggedAll setup [] r r
-logged_nothing setup r own = record { own = own; stands = λ stamp sendings. refl; knows = sym (set_back (known_to r) r.me) }
+logged_nothing setup r own = record { own = own; stands = λ stamp sendings kept. refl; knows = sym (set_back (known_to r) r.me) }
 
 -- nothing is learned at first
 pub learned_nothing : (r : Replica) → IsStore (length (known_to r)) r.store → HasLearned [] r r

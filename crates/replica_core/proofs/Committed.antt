@@ -14,7 +14,7 @@ use Rattle.run_model.specs.Steps.{AreAdmitted, accepts_of, answered, dropped, gi
 use Rattle.run_model.specs.Wants.{need_of, piece_for}
 use Rattle.causal_store.specs.Stores.{cut_in}
 use Rattle.message_laws.specs.Heeded.{with_items}
-use Rattle.message_laws.proofs.Logged.{answered_gives, gives_for}
+use Rattle.message_laws.proofs.Logged.{accepts_few, answered_gives, gives_few, gives_for}
 use Rattle.message_drafts.specs.declared.taken.Taken.{Taken}
 use Rattle.message_drafts.specs.Taking.{IsTaken}
 use Rattle.replica_core.specs.Decisions.{IsHeeded, Splits}
@@ -22,14 +22,14 @@ use Rattle.replica_core.specs.Next.{AreNext}
 use Rattle.replica_core.specs.Replicas.{IsReplica, known_to, own_log, standing_of, view_of}
 use Rattle.replica_core.specs.declared.replica.Replica.{Replica}
 use Rattle.replica_core.proofs.Applied.{Admitted, accepts_begin, accepts_next, all_applied, part_of, start_of}
-use Rattle.replica_core.proofs.Items.{accepts_few, gives_few, items_for, items_long, logged_items}
+use Rattle.replica_core.proofs.Items.{items_for, items_long, logged_items}
 use Rattle.replica_core.proofs.Lists.{back_of, front_of}
 use Rattle.replica_core.proofs.Next.{next_like}
 use Rattle.replica_core.proofs.Passing.{Goes, gives_next}
 
 -- how it stands before it answers
 abbrev pub before_of : Setup → Message → Replica → List LogItem → Standing
-before_of setup message r applied = dropped setup (with_items message.from applied (known_to r)) r.me (received r.me message applied (standing_of 0 [] r))
+before_of setup message r applied = dropped setup (with_items message.from applied (known_to r)) r.me (received r.me message applied (standing_of 0 [] [] r))
 
 -- the same but for what is wanted, was told and was sent
 abbrev plain : Standing → Standing

@@ -9,17 +9,18 @@ use Rattle.spec_model.specs.declared.right.Need.{Need}
 use Rattle.spec_model.specs.declared.right.Want.{Want}
 use Rattle.spec_model.specs.declared.log.Body.{Body}
 use Rattle.spec_model.specs.declared.log.LogItem.{LogItem}
+use Rattle.run_model.specs.declared.batch.Batch.{Batch}
 use Rattle.run_model.specs.declared.message.Message.{Message}
 use Rattle.run_model.specs.declared.step.Outcome.TheVariants as outcomes
-use Rattle.run_model.specs.Logs.{Logs, log_at}
-use Rattle.run_model.specs.Worlds.{Standing, Sending, holding, joined, logged_all}
-use Rattle.run_model.specs.Steps.{accepts_of, cut_after, dropped, received}
+use Rattle.run_model.specs.Logs.{Logs, cut_after, log_at, with_all}
+use Rattle.run_model.specs.Worlds.{Standing, Sending, Up, holding, joined, logged_all}
+use Rattle.run_model.specs.Steps.{Takes, accepts_of, dropped, received}
 use Rattle.run_model.specs.Wants.{still_wanted}
 use Rattle.run_model.proofs.Alike.{AllAlike, held_alike}
+use Rattle.run_model.proofs.Known.{with_row}
 use Rattle.run_model.specs.Holding.{held_of}
 use Rattle.rights_table.specs.Whole.{HasEntryFor}
 use Rattle.message_laws.proofs.Lists.{each_parts}
-use Rattle.causal_store.specs.Agreeing.{with_all}
 use Rattle.causal_store.specs.Stores.{cut_in}
 use Rattle.causal_store.proofs.Stored.{each_set}
 use Rattle.message_laws.specs.Heeded.{with_items}
@@ -30,7 +31,7 @@ use Rattle.replica_core.specs.Decisions.{IsReadyFor, Splits}
 use Rattle.replica_core.specs.Next.{AreEntered, AreNext, AreOthers, HasPut, taken_by}
 use Rattle.replica_core.specs.Replicas.{HasLearned, HasLoggedAll, HasTaken, IsReplica, KnowsOwn, holds_of, known_to, own_log, standing_of}
 use Rattle.replica_core.specs.declared.replica.Replica.{Replica}
-use Rattle.replica_core.proofs.Applied.{Admitted, are_others, cut_applied, part_of, row_origin, start_of, told_of}
+use Rattle.replica_core.proofs.Applied.{Admitted, are_others, cut_applied, part_of, start_of, told_of}
 use Rattle.replica_core.proofs.Changes.{knows_both, longer_by, own_again}
 use Rattle.replica_core.proofs.Committed.{before_of, gives_of, plans_of}
 use Rattle.replica_core.proofs.Entered.{plans_entered}
@@ -43,15 +44,15 @@ use Rattle.replica_core.proofs.Passing.{goes_alike}
 -- ---- the logs that are known
 
 -- once it has logged its next items
-pub logged_known : (setup : Setup) (needs : List Need) (items : List LogItem) (old new : Replica) → IsReplica setup old.me old → AreNext setup (known_to old) old.me needs (standing_of 0 [] old) items → HasLoggedAll setup (map (λ (i : LogItem). i.body) items) old new
+pub logged_known : (setup : Setup) (needs : List Need) (items : List LogItem) (old new : Replica) → IsReplica setup old.me old → AreNext setup (known_to old) old.me needs (standing_of 0 [] [] old) items → HasLoggedAll setup (map (λ (i : LogItem). i.body) items) old new
     → known_to new ≡ with_all items (known_to old)
 logged_known setup needs items old new own next logged =
     let me : ℕ = old.me in
     let known : Logs = known_to old in
     let bodies : List Body = map (λ (i : LogItem). i.body) items in
-    let p : Standing = standing_of 0 [] old in
+    let p : Standing = standing_of 0 [] [] old in
     let made : items_for me bodies p ≡ items = next_items setup known me needs p items next in
-    let log : own_log new ≡ own_log old ++ items = ap (λ (q : Standing). q.log) (logged.stands 0 []) ∙ logged_items me bodies p ∙ ap (λ (l : List LogItem). own_log old ++ l) made in
+    let log : own_log new ≡ own_log old ++ items = ap (λ (q : Standing). q.log) (logged.stands 0 [] []) ∙ logged_items me bodies p ∙ ap (λ (l : List LogItem). own_log old ++ l) made in
     logged.knows ∙ ap (λ i. slice_set known i (own_log new)) logged.own.me_is ∙ ap (slice_set known me) log
     ∙ sym (with_all_of me items known (subst (AllByRecursion (λ (i : LogItem). i.origin ≡ me)) made (own_origin me bodies p)) (omega (arith, own.store.whole, own.view.within)))
   where
@@ -62,7 +63,7 @@ logged_known setup needs items old new own next logged =
 -- once it has applied those of another log
 pub learned_known : (setup : Setup) (old new : Replica) (from : ℕ) (items : List LogItem) → IsReplica setup old.me old → AreOthers setup old from items → HasLearned items old new → known_to new ≡ with_all items (known_to old)
 learned_known setup old new from items own h learned =
-    learned_logs setup old new from items own h learned ∙ sym (with_all_of from items (known_to old) (row_origin from (length (log_at (known_to old) from)) items h.row) (omega (arith, h.place, own.store.whole)))
+    learned_logs setup old new from items own h learned ∙ sym (with_row from (length (log_at (known_to old) from)) items (known_to old) h.row (omega (arith, h.place, own.store.whole)))
 
 -- ---- it hears
 
@@ -134,7 +135,7 @@ pub record IsAfter (setup : Setup) (message : Message) (old learned : Replica) (
   pub own : IsReplica setup learned.me learned
   pub mine : learned.me ≡ old.me
   pub logs : known_to learned ≡ with_items message.from front (known_to old)
-  pub stands : (stamp : ℕ) (sendings : List Sending) → standing_of stamp sendings learned ≡ record (standing_of stamp sendings old) { told = told_of message old; cut = cut_after (cut_in old.store) front }
+  pub stands : (stamp : ℕ) (sendings : List Sending) (kept : List Batch) → standing_of stamp sendings kept learned ≡ record (standing_of stamp sendings kept old) { told = told_of message old; cut = cut_after (cut_in old.store) front }
   pub needs : learned.needs ≡ old.needs
   pub table : learned.table ≡ old.table
 
@@ -152,23 +153,23 @@ is_after setup message taken old heard learned front accepts outs h =
       own = own_again setup heard.me learned h.own;
       mine = mine;
       logs = logs;
-      stands = λ stamp sendings.
-          ap (λ (l : List LogItem). let p : Standing = record (standing_of stamp sendings learned) { log = l } in p) log
-          ∙ ap (λ (c : List ℕ). let p : Standing = record (standing_of stamp sendings learned) { log = own_log old; cut = c } in p) cut
-          ∙ ap (λ (r : Replica). let p : Standing = record { log = own_log old; cut = cut_after (cut_in old.store) front; stamp = stamp; wants = r.wants; told = r.told; sendings = sendings } in p) (h.by.kept)
-          ∙ ap (λ (r : Replica). let p : Standing = record { log = own_log old; cut = cut_after (cut_in old.store) front; stamp = stamp; wants = r.wants; told = r.told; sendings = sendings } in p) h.at.is;
+      stands = λ stamp sendings kept.
+          ap (λ (l : List LogItem). let p : Standing = record (standing_of stamp sendings kept learned) { log = l } in p) log
+          ∙ ap (λ (c : List ℕ). let p : Standing = record (standing_of stamp sendings kept learned) { log = own_log old; cut = c } in p) cut
+          ∙ ap (λ (r : Replica). let p : Standing = record { log = own_log old; cut = cut_after (cut_in old.store) front; stamp = stamp; wants = r.wants; told = r.told; sendings = sendings; running = Up; kept = kept } in p) (h.by.kept)
+          ∙ ap (λ (r : Replica). let p : Standing = record { log = own_log old; cut = cut_after (cut_in old.store) front; stamp = stamp; wants = r.wants; told = r.told; sendings = sendings; running = Up; kept = kept } in p) h.at.is;
       needs = ap (λ (r : Replica). r.needs) h.by.kept ∙ ap (λ (r : Replica). r.needs) h.at.is;
       table = ap (λ (r : Replica). r.table) h.by.kept ∙ ap (λ (r : Replica). r.table) h.at.is;
     }
 
 -- the Accepts are next, and have their entries
-pub learned_next : (setup : Setup) (message : Message) (taken : Taken) (old heard learned : Replica) (front accepts outs : List LogItem) (needs : List Need) → AtLearned setup message taken old heard learned front accepts outs → AreNext setup (known_to learned) learned.me needs (standing_of 0 [] learned) accepts
+pub learned_next : (setup : Setup) (message : Message) (taken : Taken) (old heard learned : Replica) (front accepts outs : List LogItem) (needs : List Need) → AtLearned setup message taken old heard learned front accepts outs → AreNext setup (known_to learned) learned.me needs (standing_of 0 [] [] learned) accepts
 learned_next setup message taken old heard learned front accepts outs needs h =
     let plans = plans_of setup message old taken front accepts outs h.at.splits in
     let after = is_after setup message taken old heard learned front accepts outs h in
-    subst (λ (l : Logs). AreNext setup l learned.me needs (standing_of 0 [] learned) accepts) (sym after.logs)
-    (subst (λ i. AreNext setup (with_items message.from front (known_to old)) i needs (standing_of 0 [] learned) accepts) (sym after.mine)
-    (subst (λ (p : Standing). AreNext setup (with_items message.from front (known_to old)) old.me needs p accepts) (sym (after.stands 0 [])) (plans.accept needs)))
+    subst (λ (l : Logs). AreNext setup l learned.me needs (standing_of 0 [] [] learned) accepts) (sym after.logs)
+    (subst (λ i. AreNext setup (with_items message.from front (known_to old)) i needs (standing_of 0 [] [] learned) accepts) (sym after.mine)
+    (subst (λ (p : Standing). AreNext setup (with_items message.from front (known_to old)) old.me needs p accepts) (sym (after.stands 0 [] [])) (plans.accept needs)))
 
 pub learned_entered : (setup : Setup) (message : Message) (taken : Taken) (old heard learned : Replica) (front accepts outs : List LogItem) → AtLearned setup message taken old heard learned front accepts outs → AreEntered setup (known_to learned) learned.needs learned.table (accepts ++ outs)
 learned_entered setup message taken old heard learned front accepts outs h =
@@ -190,8 +191,8 @@ pub record IsAccepted (setup : Setup) (message : Message) (old mid : Replica) (f
   pub own : IsReplica setup mid.me mid
   pub mine : mid.me ≡ old.me
   pub knows : KnowsOwn (with_items message.from front (known_to old)) mid
-  pub stands : (stamp : ℕ) (sendings : List Sending) → standing_of stamp sendings mid ≡ received old.me message front (standing_of stamp sendings old)
-  pub holds : (stamp : ℕ) (sendings : List Sending) → holds_of setup mid ≡ holding setup (with_items message.from front (known_to old)) old.me (standing_of stamp sendings mid)
+  pub stands : (stamp : ℕ) (sendings : List Sending) (kept : List Batch) → standing_of stamp sendings kept mid ≡ received old.me message front (standing_of stamp sendings kept old)
+  pub holds : (stamp : ℕ) (sendings : List Sending) (kept : List Batch) → holds_of setup mid ≡ holding setup (with_items message.from front (known_to old)) old.me (standing_of stamp sendings kept mid)
 
 pub is_accepted : (setup : Setup) (message : Message) (taken : Taken) (old heard learned mid : Replica) (front accepts outs : List LogItem) → AtMid setup message taken old heard learned mid front accepts outs → IsAccepted setup message old mid front
 is_accepted setup message taken old heard learned mid front accepts outs h =
@@ -203,15 +204,15 @@ is_accepted setup message taken old heard learned mid front accepts outs h =
     let these : map (λ (i : LogItem). i.body) accepts ≡ bodies = ap (map (λ (i : LogItem). i.body)) plans.accepts_are ∙ bodies_back me bodies (start_of message old front) in
     let mine : mid.me ≡ me = h.logged.own.me_is ∙ after.mine in
     let knows : KnowsOwn logs mid = h.logged.knows ∙ ap (λ (l : Logs). slice_set l mid.me (own_log mid)) after.logs in
-    let stands : (stamp : ℕ) (sendings : List Sending) → standing_of stamp sendings mid ≡ received me message front (standing_of stamp sendings old) =
-    λ stamp sendings. h.logged.stands stamp sendings ∙ ap (λ (bs : List Body). logged_all learned.me bs (standing_of stamp sendings learned)) these ∙ ap (λ i. logged_all i bodies (standing_of stamp sendings learned)) after.mine ∙ ap (logged_all me bodies) (after.stands stamp sendings) in
+    let stands : (stamp : ℕ) (sendings : List Sending) (kept : List Batch) → standing_of stamp sendings kept mid ≡ received me message front (standing_of stamp sendings kept old) =
+    λ stamp sendings kept. h.logged.stands stamp sendings kept ∙ ap (λ (bs : List Body). logged_all learned.me bs (standing_of stamp sendings kept learned)) these ∙ ap (λ i. logged_all i bodies (standing_of stamp sendings kept learned)) after.mine ∙ ap (logged_all me bodies) (after.stands stamp sendings kept) in
     record {
       own = own_again setup learned.me mid h.logged.own;
       mine = mine;
       knows = knows;
       stands = stands;
-      holds = λ stamp sendings.
-          let log : (logged_all me bodies (start_of message old front)).log ≡ own_log mid = sym (ap (λ (p : Standing). p.log) (stands 0 [])) in
+      holds = λ stamp sendings kept.
+          let log : (logged_all me bodies (start_of message old front)).log ≡ own_log mid = sym (ap (λ (p : Standing). p.log) (stands 0 [] [])) in
           let known : known_to mid ≡ slice_set logs me (own_log mid) = knows ∙ ap (λ i. slice_set logs i (own_log mid)) mine in
           let alike = subst (λ (l : List LogItem). AllAlike logs (slice_set logs me l) l) log (goes_alike setup logs me (logged_all me bodies (start_of message old front)) plans.goes) in
           ap (λ i. held_of setup (known_to mid) i (own_log mid)) mine ∙ ap (λ (l : Logs). held_of setup l me (own_log mid)) known ∙ sym (held_alike setup logs (slice_set logs me (own_log mid)) me (own_log mid) alike);
@@ -238,27 +239,27 @@ dropped_own setup mid left own is =
     })
 
 -- the Outs are next, and have their entries
-pub left_next : (setup : Setup) (message : Message) (taken : Taken) (old heard learned mid left : Replica) (front accepts outs : List LogItem) (needs : List Need) → AtLeft setup message taken old heard learned mid left front accepts outs → AreNext setup (known_to left) left.me needs (standing_of 0 [] left) outs
+pub left_next : (setup : Setup) (message : Message) (taken : Taken) (old heard learned mid left : Replica) (front accepts outs : List LogItem) (needs : List Need) → AtLeft setup message taken old heard learned mid left front accepts outs → AreNext setup (known_to left) left.me needs (standing_of 0 [] [] left) outs
 left_next setup message taken old heard learned mid left front accepts outs needs h =
     let logs : Logs = with_items message.from front (known_to old) in
     let plans = plans_of setup message old taken front accepts outs h.at.at.at.splits in
     let accepted = is_accepted setup message taken old heard learned mid front accepts outs h.at in
     let p : Standing = logged_all old.me (accepts_of old.me front) (start_of message old front) in
-    let q : Standing = standing_of 0 [] mid in
-    let first : AreNext setup logs old.me needs q outs = subst (λ (s : Standing). AreNext setup logs old.me needs s outs) (sym (accepted.stands 0 [])) (plans.give needs) in
+    let q : Standing = standing_of 0 [] [] mid in
+    let first : AreNext setup logs old.me needs q outs = subst (λ (s : Standing). AreNext setup logs old.me needs s outs) (sym (accepted.stands 0 [] [])) (plans.give needs) in
     let here : AreNext setup logs mid.me needs q outs = subst (λ i. AreNext setup logs i needs q outs) (sym accepted.mine) first in
     let there : AreNext setup (known_to mid) mid.me needs q outs = next_set setup logs (known_to mid) mid.me needs q outs (then_same logs mid accepted.knows) here in
     let same : AreNext setup (known_to mid) mid.me needs (record q { wants = still_wanted setup.replicas (holds_of setup mid) mid.wants }) outs =
     next_like setup (known_to mid) mid.me needs q (record q { wants = still_wanted setup.replicas (holds_of setup mid) mid.wants }) outs refl refl there in
-    subst (λ (r : Replica). AreNext setup (known_to r) r.me needs (standing_of 0 [] r) outs) (sym h.is) same
+    subst (λ (r : Replica). AreNext setup (known_to r) r.me needs (standing_of 0 [] [] r) outs) (sym h.is) same
 
 pub left_entered : (setup : Setup) (message : Message) (taken : Taken) (old heard learned mid left : Replica) (front accepts outs : List LogItem) → AtLeft setup message taken old heard learned mid left front accepts outs → AreEntered setup (known_to left) left.needs left.table outs
 left_entered setup message taken old heard learned mid left front accepts outs h =
     let after = learned_entered setup message taken old heard learned front accepts outs h.at.at in
     let accepted = is_accepted setup message taken old heard learned mid front accepts outs h.at in
     let both = (each_parts (λ (i : LogItem). HasEntryFor setup i.body (taken_by (known_to learned) i.body) learned.needs learned.table) accepts outs after).1 in
-    let next = subst (λ (r : Replica). AreNext setup (known_to r) r.me learned.needs (standing_of 0 [] r) outs) h.is (left_next setup message taken old heard learned mid left front accepts outs learned.needs h) in
-    let there : AreEntered setup (known_to mid) learned.needs mid.table outs = entered_on setup (known_to learned) learned.needs learned mid (standing_of 0 [] (record mid { wants = still_wanted setup.replicas (holds_of setup mid) mid.wants })) (known_to mid) outs h.at.logged.knows h.at.put.kept next both in
+    let next = subst (λ (r : Replica). AreNext setup (known_to r) r.me learned.needs (standing_of 0 [] [] r) outs) h.is (left_next setup message taken old heard learned mid left front accepts outs learned.needs h) in
+    let there : AreEntered setup (known_to mid) learned.needs mid.table outs = entered_on setup (known_to learned) learned.needs learned mid (standing_of 0 [] [] (record mid { wants = still_wanted setup.replicas (holds_of setup mid) mid.wants })) (known_to mid) outs h.at.logged.knows h.at.put.kept next both in
     let now : AreEntered setup (known_to mid) mid.needs mid.table outs = subst (λ (n : List Need). AreEntered setup (known_to mid) n mid.table outs) (sym h.at.put.needs) there in
     subst (λ (r : Replica). AreEntered setup (known_to r) r.needs r.table outs) (sym h.is) now
 
@@ -276,31 +277,32 @@ has_taken setup message taken old heard learned mid left new front accepts outs 
     let these : map (λ (i : LogItem). i.body) outs ≡ gives = ap (map (λ (i : LogItem). i.body)) plans.outs_are ∙ bodies_back me gives (before_of setup message old front) in
     let mine : left.me ≡ me = ap (λ (r : Replica). r.me) h.is ∙ accepted.mine in
     let knows : KnowsOwn logs left = subst (KnowsOwn logs) (sym h.is) accepted.knows in
-    let before : (stamp : ℕ) (sendings : List Sending) → standing_of stamp sendings left ≡ dropped setup logs me (received me message front (standing_of stamp sendings old)) =
-    λ stamp sendings.
-    let q : Standing = standing_of stamp sendings mid in
-    ap (standing_of stamp sendings) h.is ∙ ap (λ (f : Need → Held). let p : Standing = record q { wants = still_wanted setup.replicas f mid.wants } in p) (accepted.holds stamp sendings) ∙ ap (dropped setup logs me) (accepted.stands stamp sendings) in
+    let before : (stamp : ℕ) (sendings : List Sending) (kept : List Batch) → standing_of stamp sendings kept left ≡ dropped setup logs me (received me message front (standing_of stamp sendings kept old)) =
+    λ stamp sendings kept.
+    let q : Standing = standing_of stamp sendings kept mid in
+    ap (standing_of stamp sendings kept) h.is ∙ ap (λ (f : Need → Held). let p : Standing = record q { wants = still_wanted setup.replicas f mid.wants } in p) (accepted.holds stamp sendings kept) ∙ ap (dropped setup logs me) (accepted.stands stamp sendings kept) in
     let long = longer_by setup (map (λ (i : LogItem). i.body) outs) left new given in
     let accepts_long = longer_by setup (map (λ (i : LogItem). i.body) accepts) learned mid h.at.logged in
-    let start_long = ap (λ (p : Standing). length p.log) ((is_after setup message taken old heard learned front accepts outs h.at.at).stands 0 []) in
+    let start_long = ap (λ (p : Standing). length p.log) ((is_after setup message taken old heard learned front accepts outs h.at.at).stands 0 [] []) in
     let outcome : outcomes.Took message.number (length front) (length (accepts_of me front)) (length outs) ≡ outcomes.Took message.number taken.applied taken.accepted taken.gave =
     ap (λ n. outcomes.Took message.number n (length (accepts_of me front)) (length outs)) (sym plans.applied_is) ∙ ap (λ n. outcomes.Took message.number taken.applied n (length outs)) (sym plans.accepted_is) ∙ ap (outcomes.Took message.number taken.applied taken.accepted) (sym plans.gave_is) in
+    let all : logs ≡ with_all front (known_to old) = sym (with_row message.from (length (log_at (known_to old) message.from)) front (known_to old) (are_others setup message old front plans.admits).row (omega (arith, plans.admits.own.store.whole, plans.admits.heeded.fits.sender))) in
     record {
       own = subst (λ i. IsReplica setup i new) mine given.own;
       applied = front;
-      takes = λ stamp sendings.
-          let q : Standing = standing_of stamp sendings left in
-          let same : gives_for setup logs me message.from message.wants q ≡ gives = gives_stamped setup logs me message.from message.wants (standing_of 0 [] left) stamp sendings ∙ ap (gives_for setup logs me message.from message.wants) (before 0 []) in
-          record {
+      takes = λ stamp sendings kept.
+          let q : Standing = standing_of stamp sendings kept left in
+          let same : gives_for setup logs me message.from message.wants q ≡ gives = gives_stamped setup logs me message.from message.wants (standing_of 0 [] [] left) stamp sendings kept ∙ ap (gives_for setup logs me message.from message.wants) (before 0 [] []) in
+          subst (λ (l : Logs). Takes setup l me message front (standing_of stamp sendings kept old) (outcomes.Took message.number taken.applied taken.accepted taken.gave) (standing_of stamp sendings kept new)) all (record {
             gave = length outs;
             before_answers = q;
             admitted = plans.admits.admitted;
-            before_is = before stamp sendings;
-            becomes = given.stands stamp sendings ∙ ap (λ i. logged_all i (map (λ (x : LogItem). x.body) outs) q) mine ∙ ap (λ (bs : List Body). logged_all me bs q) (these ∙ sym same) ∙ sym (answered_gives setup logs me message.from message.wants q);
+            before_is = before stamp sendings kept;
+            becomes = given.stands stamp sendings kept ∙ ap (λ i. logged_all i (map (λ (x : LogItem). x.body) outs) q) mine ∙ ap (λ (bs : List Body). logged_all me bs q) (these ∙ sym same) ∙ sym (answered_gives setup logs me message.from message.wants q);
             gave_is = omega (arith, long, length-map outs (λ (i : LogItem). i.body));
             outcome_is = sym outcome;
-          };
-      knows = knows_both logs left new given.own.me_is knows given.knows;
+          });
+      knows = subst (λ (l : Logs). KnowsOwn l new) all (knows_both logs left new given.own.me_is knows given.knows);
       grown = omega (arith, long, length-map outs (λ (i : LogItem). i.body), accepts_long, length-map accepts (λ (i : LogItem). i.body), start_long, plans.few_accepts, plans.few_outs, ap (λ (r : Replica). length (own_log r)) h.is);
     }
 

@@ -1,8 +1,7 @@
 -- The items of bodies that a replica logs one after the other, and the logs that it then knows.
-use Rattle.std.proofs.Common.{◌≡◌, ℕ, zero, suc, ◌<◌, ◌≤◌, List, [], ◌∷◌, ◌++◌, length, map, set, refl, sym, ap, ◌∙◌, arith, length-append, length-set}
-use Rattle.std.specs.Prelude.{None, Option, Some, slice_set, ◌==◌}
+use Rattle.std.proofs.Common.{◌≡◌, ℕ, zero, suc, ◌<◌, List, [], ◌∷◌, ◌++◌, length, map, set, refl, sym, ap, ◌∙◌, arith, length-set}
+use Rattle.std.specs.Prelude.{None, Option, Some, slice_set}
 use Rattle.std.specs.List.{AllByRecursion}
-use Rattle.std.proofs.lemmas.Bool.{cond_both}
 use Rattle.std.proofs.lemmas.List.{append-nil, append_assoc, get_or-set_same}
 use Rattle.spec_model.specs.declared.plan.Setup.{Setup}
 use Rattle.spec_model.specs.declared.instance.Inst.{Inst}
@@ -12,12 +11,12 @@ use Rattle.spec_model.specs.declared.right.Want.{Want}
 use Rattle.spec_model.specs.declared.log.Body.{Body}
 use Rattle.spec_model.specs.declared.log.Body.TheVariants as body
 use Rattle.spec_model.specs.declared.log.LogItem.{LogItem}
-use Rattle.run_model.specs.Logs.{Logs, log_at}
-use Rattle.run_model.specs.Steps.{accept_of, accepts_of, given}
+use Rattle.run_model.specs.declared.batch.Batch.{Batch}
+use Rattle.run_model.specs.Logs.{Logs, log_at, with_all}
+use Rattle.run_model.specs.Steps.{accepts_of, given}
 use Rattle.run_model.specs.Wants.{need_of, piece_for}
 use Rattle.run_model.specs.Worlds.{Standing, Sending, holding, logged, logged_all}
 use Rattle.run_model.proofs.Lists.{each_append}
-use Rattle.causal_store.specs.Agreeing.{with_all}
 use Rattle.message_laws.specs.Heeded.{with_items}
 use Rattle.message_laws.proofs.Logged.{accepts_each, gives_for}
 
@@ -48,44 +47,16 @@ pub items_origin : (me : ℕ) (bodies : List Body) (p : Standing) → AllByRecur
 items_origin me [] p = tt
 items_origin me (b ∷ bodies) p = (refl, items_origin me bodies (logged me b p))
 
--- whatever is wanted, was told and was sent
-pub logged_stamped : (me : ℕ) (bodies : List Body) (p : Standing) (stamp : ℕ) (sendings : List Sending) → logged_all me bodies (record p { stamp = stamp; sendings = sendings }) ≡ record (logged_all me bodies p) { stamp = stamp; sendings = sendings }
-logged_stamped me [] p stamp sendings = refl
-logged_stamped me (b ∷ bodies) p stamp sendings = logged_stamped me bodies (logged me b p) stamp sendings
+-- whatever is wanted, was told, was sent and was kept
+pub logged_stamped : (me : ℕ) (bodies : List Body) (p : Standing) (stamp : ℕ) (sendings : List Sending) (kept : List Batch) → logged_all me bodies (record p { stamp = stamp; sendings = sendings; kept = kept }) ≡ record (logged_all me bodies p) { stamp = stamp; sendings = sendings; kept = kept }
+logged_stamped me [] p stamp sendings kept = refl
+logged_stamped me (b ∷ bodies) p stamp sendings kept = logged_stamped me bodies (logged me b p) stamp sendings kept
 
-pub gives_stamped : (setup : Setup) (logs : Logs) (me to : ℕ) (wants : List Want) (p : Standing) (stamp : ℕ) (sendings : List Sending) → gives_for setup logs me to wants (record p { stamp = stamp; sendings = sendings }) ≡ gives_for setup logs me to wants p
-gives_stamped setup logs me to [] p stamp sendings = refl
-gives_stamped setup logs me to (w ∷ wants) p stamp sendings =
+pub gives_stamped : (setup : Setup) (logs : Logs) (me to : ℕ) (wants : List Want) (p : Standing) (stamp : ℕ) (sendings : List Sending) (kept : List Batch) → gives_for setup logs me to wants (record p { stamp = stamp; sendings = sendings; kept = kept }) ≡ gives_for setup logs me to wants p
+gives_stamped setup logs me to [] p stamp sendings kept = refl
+gives_stamped setup logs me to (w ∷ wants) p stamp sendings kept =
     let bodies : List Body = given (piece_for (holding setup logs me p (need_of w)) w.ask) to w.right in
-    ap (λ (q : Standing). bodies ++ gives_for setup logs me to wants q) (logged_stamped me bodies p stamp sendings) ∙ ap (λ (l : List Body). bodies ++ l) (gives_stamped setup logs me to wants (logged_all me bodies p) stamp sendings)
-
--- ---- how many they are
-
-given_few : (o : Option Piece) (to : ℕ) (r : Right) → length (given o to r) ≤ 1
-given_few None to r = omega arith
-given_few (Some pc) to r = omega arith
-
--- at most one piece is given to each want
-pub gives_few : (setup : Setup) (logs : Logs) (me to : ℕ) (wants : List Want) (p : Standing) → length (gives_for setup logs me to wants p) ≤ length wants
-gives_few setup logs me to [] p = omega arith
-gives_few setup logs me to (w ∷ wants) p =
-    let bodies : List Body = given (piece_for (holding setup logs me p (need_of w)) w.ask) to w.right in
-    let rest = gives_few setup logs me to wants (logged_all me bodies p) in
-    let one = given_few (piece_for (holding setup logs me p (need_of w)) w.ask) to w.right in
-    omega (arith, one, rest, length-append bodies (gives_for setup logs me to wants (logged_all me bodies p)))
-
-accept_few : (me origin index : ℕ) (b : Body) → length (accept_of me origin index b) ≤ 1
-accept_few me origin index (body.Act inst) = omega arith
-accept_few me origin index (body.Out to r pc) = cond_both (to == me) (body.Accept origin index ∷ []) [] (λ (l : List Body). length l ≤ 1) (λ mine. omega arith) (λ others. omega arith)
-accept_few me origin index (body.Accept from at) = omega arith
-
--- and of each item at most one thing is accepted
-pub accepts_few : (me : ℕ) (items : List LogItem) → length (accepts_of me items) ≤ length items
-accepts_few me [] = omega arith
-accepts_few me (x ∷ items) =
-    let one = accept_few me x.origin x.index x.body in
-    let rest = accepts_few me items in
-    omega (arith, one, rest, length-append (accept_of me x.origin x.index x.body) (accepts_of me items))
+    ap (λ (q : Standing). bodies ++ gives_for setup logs me to wants q) (logged_stamped me bodies p stamp sendings kept) ∙ ap (λ (l : List Body). bodies ++ l) (gives_stamped setup logs me to wants (logged_all me bodies p) stamp sendings kept)
 
 -- ---- no acts
 

@@ -18,3 +18,5 @@ pub mod Replayed
 pub mod Sending
 pub mod Showing
 pub mod Dropped
+pub mod Growing
+pub mod Drafted

@@ -121,9 +121,9 @@ logs_one setup b old s t h =
         told = h.own.told;
         told_each = h.own.told_each;
       };
-      stands = λ stamp sendings.
-          ap (λ (l : List LogItem). let p : Standing = record (standing_of stamp sendings old) { log = l; cut = cut_in s } in p) there
-          ∙ ap (λ (c : List ℕ). let p : Standing = record (standing_of stamp sendings old) { log = own ++ item ∷ []; cut = c } in p) cut_is;
+      stands = λ stamp sendings kept.
+          ap (λ (l : List LogItem). let p : Standing = record (standing_of stamp sendings kept old) { log = l; cut = cut_in s } in p) there
+          ∙ ap (λ (c : List ℕ). let p : Standing = record (standing_of stamp sendings kept old) { log = own ++ item ∷ []; cut = c } in p) cut_is;
       knows = h.logs ∙ ap (slice_set known me) (sym there);
     }
 

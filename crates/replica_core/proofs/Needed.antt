@@ -12,6 +12,7 @@ use Rattle.spec_model.specs.declared.right.Held.{Held}
 use Rattle.spec_model.specs.declared.right.Lacking.{Lacking}
 use Rattle.spec_model.specs.declared.log.Body.TheVariants as body
 use Rattle.spec_model.specs.Needs.{needs}
+use Rattle.run_model.specs.declared.batch.Batch.{Batch}
 use Rattle.run_model.specs.declared.step.Outcome.{Outcome}
 use Rattle.run_model.specs.declared.step.Outcome.TheVariants as outcomes
 use Rattle.run_model.specs.Logs.{Logs}
@@ -71,18 +72,18 @@ abbrev pub needs_here : Setup → Inst → Replica → List Need
 needs_here setup inst r = needs setup (truths_here setup (view_of r)) inst
 
 -- where no clause would break, what is needed decides
-unbroken : (setup : Setup) (inst : Inst) (old new : Replica) (outcome : Outcome) (stamp : ℕ) (sendings : List Sending) → broken_here setup inst (view_of old) ≡ None
-    → Requested old.me inst None (first_lacking setup.replicas (holds_of setup old) (needs_here setup inst old)) (standing_of stamp sendings old) outcome (standing_of stamp sendings new)
-    → Requests setup (known_to old) old.me inst (standing_of stamp sendings old) outcome (standing_of stamp sendings new)
-unbroken setup inst old new outcome stamp sendings whole is =
-    subst (λ b. Requested old.me inst b (first_lacking setup.replicas (holds_of setup old) (needs_here setup inst old)) (standing_of stamp sendings old) outcome (standing_of stamp sendings new)) (sym whole) is
+unbroken : (setup : Setup) (inst : Inst) (old new : Replica) (outcome : Outcome) (stamp : ℕ) (sendings : List Sending) (kept : List Batch) → broken_here setup inst (view_of old) ≡ None
+    → Requested old.me inst None (first_lacking setup.replicas (holds_of setup old) (needs_here setup inst old)) (standing_of stamp sendings kept old) outcome (standing_of stamp sendings kept new)
+    → Requests setup (known_to old) old.me inst (standing_of stamp sendings kept old) outcome (standing_of stamp sendings kept new)
+unbroken setup inst old new outcome stamp sendings kept whole is =
+    subst (λ b. Requested old.me inst b (first_lacking setup.replicas (holds_of setup old) (needs_here setup inst old)) (standing_of stamp sendings kept old) outcome (standing_of stamp sendings kept new)) (sym whole) is
 
 -- where one would, nothing changes
 pub answered_breaks : (setup : Setup) (r : Replica) (inst : Inst) (broken : Broken) → IsReplica setup r.me r → broken_here setup inst (view_of r) ≡ Some broken → HasAnswered setup inst r (outcomes.Breaks broken) r
 answered_breaks setup r inst broken own is = record {
   own = own;
-  requests = λ stamp sendings.
-      subst (λ b. Requested r.me inst b (first_lacking setup.replicas (holds_of setup r) (needs_here setup inst r)) (standing_of stamp sendings r) (outcomes.Breaks broken) (standing_of stamp sendings r)) (sym is) (refl, refl);
+  requests = λ stamp sendings kept.
+      subst (λ b. Requested r.me inst b (first_lacking setup.replicas (holds_of setup r) (needs_here setup inst r)) (standing_of stamp sendings kept r) (outcomes.Breaks broken) (standing_of stamp sendings kept r)) (sym is) (refl, refl);
   knows = sym (set_back (known_to r) r.me);
   grown = omega arith;
 }
@@ -94,7 +95,7 @@ answered_short setup inst old new l own fits whole is becomes =
     let want : Want = want_of l.need in
     record {
       own = heard_replica setup old.me old new own (record { wants = noted old.wants want; told = old.told; is = becomes; fit = noted_fit (WantFits setup) old.wants want own.wants fits; few = noted_few old.wants want own.few_wants; whole = own.told; each = own.told_each });
-      requests = λ stamp sendings. unbroken setup inst old new (outcomes.Short l) stamp sendings whole (subst (λ o. Requested old.me inst None o (standing_of stamp sendings old) (outcomes.Short l) (standing_of stamp sendings new)) is (refl, ap (standing_of stamp sendings) becomes));
+      requests = λ stamp sendings kept. unbroken setup inst old new (outcomes.Short l) stamp sendings kept whole (subst (λ o. Requested old.me inst None o (standing_of stamp sendings kept old) (outcomes.Short l) (standing_of stamp sendings kept new)) is (refl, ap (standing_of stamp sendings kept) becomes));
       knows = subst (λ (r : Replica). known_to r ≡ set_log r) (sym becomes) (sym (set_back (known_to old) old.me));
       grown = omega (arith, ap (λ (r : Replica). length (own_log r)) becomes);
     }
@@ -107,9 +108,9 @@ pub answered_done : (setup : Setup) (inst : Inst) (old new : Replica) (index : �
     → HasAnswered setup inst old (outcomes.Done index) new
 answered_done setup inst old new index at whole is h = record {
   own = h.own;
-  requests = λ stamp sendings. unbroken setup inst old new (outcomes.Done index) stamp sendings whole (subst (λ o. Requested old.me inst None o (standing_of stamp sendings old) (outcomes.Done index) (standing_of stamp sendings new)) is (ap outcomes.Done at, h.stands stamp sendings));
+  requests = λ stamp sendings kept. unbroken setup inst old new (outcomes.Done index) stamp sendings kept whole (subst (λ o. Requested old.me inst None o (standing_of stamp sendings kept old) (outcomes.Done index) (standing_of stamp sendings kept new)) is (ap outcomes.Done at, h.stands stamp sendings kept));
   knows = h.knows;
-  grown = omega (arith, ap (λ (p : Standing). length p.log) (h.stands 0 []), length-append (own_log old) (item_of (view_of old) (body.Act inst) ∷ []));
+  grown = omega (arith, ap (λ (p : Standing). length p.log) (h.stands 0 [] []), length-append (own_log old) (item_of (view_of old) (body.Act inst) ∷ []));
 }
 
 -- what the table lacks first of what is needed is what is lacking

@@ -35,7 +35,7 @@ along_known setup logs me needs p (body.Out to r piece) h = tt
 along_known setup logs me needs p (body.Accept from at) h = (h.other, slice_get_within (log_at logs from) at h.out h.there)
 
 -- the table may do what it does
-goes_with : NeedsFit → (setup : Setup) (r : Replica) (b : Body) → IsReplica setup r.me r → BodyFits setup b → GoesAlong setup (known_to r) r.me r.needs (standing_of 0 [] r) b
+goes_with : NeedsFit → (setup : Setup) (r : Replica) (b : Body) → IsReplica setup r.me r → BodyFits setup b → GoesAlong setup (known_to r) r.me r.needs (standing_of 0 [] [] r) b
     → GoesWith setup (known_to r) r.me (own_log r) (view_of r).cut (taken_by (known_to r) b) r.needs b
 goes_with need setup r (body.Act inst) own fits h = (h, subst (AllByRecursion (NeedFits setup)) (sym h) (need setup (truths_in setup.spec (known_to r) (view_of r).cut) inst own.setup_fits fits))
 goes_with need setup r (body.Out to right piece) own fits h = tt
@@ -56,7 +56,7 @@ goes_with need setup r (body.Accept from at) own fits h =
       joins = h.joins;
     }
 
-may_own : NeedsFit → (setup : Setup) (r : Replica) (item : LogItem) → IsReplica setup r.me r → IsNext setup (known_to r) r.me r.needs (standing_of 0 [] r) item → HasRoom 1 r → MayOwn setup (known_to r) r.me (own_log r) item (taken_by (known_to r) item.body) r.needs
+may_own : NeedsFit → (setup : Setup) (r : Replica) (item : LogItem) → IsReplica setup r.me r → IsNext setup (known_to r) r.me r.needs (standing_of 0 [] [] r) item → HasRoom 1 r → MayOwn setup (known_to r) r.me (own_log r) item (taken_by (known_to r) item.body) r.needs
 may_own need setup r item own next room =
     let deps : item.deps ≡ (view_of r).cut = ap (λ (i : LogItem). i.deps) next.is in
     record {
@@ -67,7 +67,7 @@ may_own need setup r item own next room =
     }
 
 -- by what goes with it in the code
-pub may_own_with : NeedsFit → (setup : Setup) (r : Replica) (item : LogItem) (of : Option Body) (needs : List Need) → IsReplica setup r.me r → IsNext setup (known_to r) r.me r.needs (standing_of 0 [] r) item → HasRoom 1 r → of ≡ taken_by (known_to r) item.body → needs ≡ r.needs
+pub may_own_with : NeedsFit → (setup : Setup) (r : Replica) (item : LogItem) (of : Option Body) (needs : List Need) → IsReplica setup r.me r → IsNext setup (known_to r) r.me r.needs (standing_of 0 [] [] r) item → HasRoom 1 r → of ≡ taken_by (known_to r) item.body → needs ≡ r.needs
     → MayOwn setup (known_to r) r.me (own_log r) item of needs
 may_own_with need setup r item of needs own next room of_is needs_are =
     subst (λ o. MayOwn setup (known_to r) r.me (own_log r) item o needs) (sym of_is) (subst (MayOwn setup (known_to r) r.me (own_log r) item (taken_by (known_to r) item.body)) (sym needs_are) (may_own need setup r item own next room))
@@ -84,18 +84,18 @@ pub then_same : (known : Logs) (new : Replica) → KnowsOwn known new → (l : L
 then_same known new knows l = sym (ap (λ (k : Logs). slice_set k new.me l) knows ∙ set_again known new.me (own_log new) l)
 
 -- once the first item was logged the others are next
-pub next_then : (setup : Setup) (needs : List Need) (b : Body) (old new : Replica) (items : List LogItem) → HasLogged setup b old new → AreNext setup (known_to old) old.me needs (logged old.me b (standing_of 0 [] old)) items → AreNext setup (known_to new) new.me needs (standing_of 0 [] new) items
+pub next_then : (setup : Setup) (needs : List Need) (b : Body) (old new : Replica) (items : List LogItem) → HasLogged setup b old new → AreNext setup (known_to old) old.me needs (logged old.me b (standing_of 0 [] [] old)) items → AreNext setup (known_to new) new.me needs (standing_of 0 [] [] new) items
 next_then setup needs b old new items h next =
-    let there : AreNext setup (known_to old) new.me needs (standing_of 0 [] new) items =
-    subst (λ i. AreNext setup (known_to old) i needs (standing_of 0 [] new) items) (sym h.own.me_is) (subst (λ (q : Standing). AreNext setup (known_to old) old.me needs q items) (sym (h.stands 0 [])) next) in
-    next_set setup (known_to old) (known_to new) new.me needs (standing_of 0 [] new) items (then_same (known_to old) new h.knows) there
+    let there : AreNext setup (known_to old) new.me needs (standing_of 0 [] [] new) items =
+    subst (λ i. AreNext setup (known_to old) i needs (standing_of 0 [] [] new) items) (sym h.own.me_is) (subst (λ (q : Standing). AreNext setup (known_to old) old.me needs q items) (sym (h.stands 0 [] [])) next) in
+    next_set setup (known_to old) (known_to new) new.me needs (standing_of 0 [] [] new) items (then_same (known_to old) new h.knows) there
 
 -- the first one is next by what is known
-pub next_first : (setup : Setup) (r : Replica) (needs : List Need) (x : LogItem) (items : List LogItem) → AreNext setup (known_to r) r.me needs (standing_of 0 [] r) (x ∷ items) → IsNext setup (known_to r) r.me needs (standing_of 0 [] r) x
-next_first setup r needs x items next = subst (λ (l : Logs). IsNext setup l r.me needs (standing_of 0 [] r) x) (set_back (known_to r) r.me) next.0
+pub next_first : (setup : Setup) (r : Replica) (needs : List Need) (x : LogItem) (items : List LogItem) → AreNext setup (known_to r) r.me needs (standing_of 0 [] [] r) (x ∷ items) → IsNext setup (known_to r) r.me needs (standing_of 0 [] [] r) x
+next_first setup r needs x items next = subst (λ (l : Logs). IsNext setup l r.me needs (standing_of 0 [] [] r) x) (set_back (known_to r) r.me) next.0
 
-pub next_one : (setup : Setup) (r : Replica) (needs : List Need) (x : LogItem) → IsNext setup (known_to r) r.me needs (standing_of 0 [] r) x → AreNext setup (known_to r) r.me needs (standing_of 0 [] r) (x ∷ [])
-next_one setup r needs x next = (subst (λ (l : Logs). IsNext setup l r.me needs (standing_of 0 [] r) x) (sym (set_back (known_to r) r.me)) next, tt)
+pub next_one : (setup : Setup) (r : Replica) (needs : List Need) (x : LogItem) → IsNext setup (known_to r) r.me needs (standing_of 0 [] [] r) x → AreNext setup (known_to r) r.me needs (standing_of 0 [] [] r) (x ∷ [])
+next_one setup r needs x next = (subst (λ (l : Logs). IsNext setup l r.me needs (standing_of 0 [] [] r) x) (sym (set_back (known_to r) r.me)) next, tt)
 
 -- by the same log and cut the same items are next
 pub next_like : (setup : Setup) (logs : Logs) (me : ℕ) (needs : List Need) (p q : Standing) (items : List LogItem) → p.log ≡ q.log → p.cut ≡ q.cut → AreNext setup logs me needs p items → AreNext setup logs me needs q items
@@ -152,7 +152,7 @@ pub entered_on : (setup : Setup) (known : Logs) (needs : List Need) (old new : R
 entered_on setup known needs old new p logs items knows keeps next h =
     entered_then setup new.me logs known (known_to new) needs p old.table new.table items (λ j ne. sym (ap (λ (l : Logs). log_at l j) knows ∙ get_or-set_other known new.me j (own_log new) [] ne)) keeps next h
 
-pub entered_next : (setup : Setup) (b : Body) (old new : Replica) (items : List LogItem) → HasLogged setup b old new → HasPut old new → AreNext setup (known_to new) new.me old.needs (standing_of 0 [] new) items → AreEntered setup (known_to old) old.needs old.table items
+pub entered_next : (setup : Setup) (b : Body) (old new : Replica) (items : List LogItem) → HasLogged setup b old new → HasPut old new → AreNext setup (known_to new) new.me old.needs (standing_of 0 [] [] new) items → AreEntered setup (known_to old) old.needs old.table items
     → AreEntered setup (known_to new) new.needs new.table items
 entered_next setup b old new items h put next entered =
-    subst (λ (n : List Need). AreEntered setup (known_to new) n new.table items) (sym put.needs) (entered_on setup (known_to old) old.needs old new (standing_of 0 [] new) (known_to new) items h.knows put.kept next entered)
+    subst (λ (n : List Need). AreEntered setup (known_to new) n new.table items) (sym put.needs) (entered_on setup (known_to old) old.needs old new (standing_of 0 [] [] new) (known_to new) items h.knows put.kept next entered)

@@ -18,12 +18,11 @@ use Rattle.spec_model.specs.declared.log.LogItem.{LogItem}
 use Rattle.run_model.specs.declared.batch.Batch.{Batch}
 use Rattle.run_model.specs.declared.message.Message.{Message}
 use Rattle.run_model.specs.declared.step.Outcome.TheVariants as outcomes
-use Rattle.run_model.specs.Logs.{Logs, log_at}
-use Rattle.run_model.specs.Worlds.{Standing, Sending, logged}
-use Rattle.run_model.specs.Steps.{Requests, Takes, accepts_of, cut_after}
+use Rattle.run_model.specs.Logs.{Logs, cut_after, log_at, with_all}
+use Rattle.run_model.specs.Worlds.{Standing, Sending, Up, logged}
+use Rattle.run_model.specs.Steps.{Requests, Takes, accepts_of}
 use Rattle.run_model.specs.Fitting.{BodyFits, IsPlaced, ItemFits, NeedFits}
 use Rattle.run_model.proofs.Lists.{each_append, each_weaker}
-use Rattle.causal_store.specs.Agreeing.{with_all}
 use Rattle.causal_store.specs.Stores.{HasRoomFor, cut_in, logs_in}
 use Rattle.causal_store.specs.declared.store.Store.{Store}
 use Rattle.rights_table.specs.declared.table.Table.{Table}
@@ -60,7 +59,7 @@ same_ready setup old s t n own logs cut all =
     let back : known_to old ≡ logs_in s = sym logs in
     let view : Logs → List ℕ → View = λ l k. record { me = me; known = l; cut = k } in
     let same : view (logs_in s) (cut_in s) ≡ view_of old = ap (λ (l : Logs). view l (cut_in s)) logs ∙ ap (view (known_to old)) cut in
-    let stand : Logs → List ℕ → ℕ → List Sending → Standing = λ l k stamp sendings. record { log = log_at l me; cut = k; stamp = stamp; wants = old.wants; told = old.told; sendings = sendings } in
+    let stand : Logs → List ℕ → ℕ → List Sending → List Batch → Standing = λ l k stamp sendings kept. record { log = log_at l me; cut = k; stamp = stamp; wants = old.wants; told = old.told; sendings = sendings; running = Up; kept = kept } in
     record {
       own = record {
         me_is = refl;
@@ -84,17 +83,17 @@ same_ready setup old s t n own logs cut all =
       room = λ n h. subst (λ (l : Logs). length (log_at l me) + n ≤ 4194304) back h;
       answered = λ inst outcome last h. record {
         own = h.own;
-        requests = λ stamp sendings. subst (λ (k : List ℕ). Requests setup (known_to old) me inst (stand (known_to old) k stamp sendings) outcome (standing_of stamp sendings last)) cut
-            (subst (λ (l : Logs). Requests setup l me inst (stand l (cut_in s) stamp sendings) outcome (standing_of stamp sendings last)) logs (h.requests stamp sendings));
+        requests = λ stamp sendings kept. subst (λ (k : List ℕ). Requests setup (known_to old) me inst (stand (known_to old) k stamp sendings kept) outcome (standing_of stamp sendings kept last)) cut
+            (subst (λ (l : Logs). Requests setup l me inst (stand l (cut_in s) stamp sendings kept) outcome (standing_of stamp sendings kept last)) logs (h.requests stamp sendings kept));
         knows = subst (λ (l : Logs). KnowsOwn l last) logs h.knows;
         grown = subst (λ (l : Logs). length (own_log last) ≤ length (log_at l me) + 1) logs h.grown;
       };
       took = λ message outcome last h. record {
         own = h.own;
         applied = h.applied;
-        takes = λ stamp sendings. subst (λ (k : List ℕ). Takes setup (with_items message.from h.applied (known_to old)) me message h.applied (stand (known_to old) k stamp sendings) outcome (standing_of stamp sendings last)) cut
-            (subst (λ (l : Logs). Takes setup (with_items message.from h.applied l) me message h.applied (stand l (cut_in s) stamp sendings) outcome (standing_of stamp sendings last)) logs (h.takes stamp sendings));
-        knows = subst (λ (l : Logs). KnowsOwn (with_items message.from h.applied l) last) logs h.knows;
+        takes = λ stamp sendings kept. subst (λ (k : List ℕ). Takes setup (with_all h.applied (known_to old)) me message h.applied (stand (known_to old) k stamp sendings kept) outcome (standing_of stamp sendings kept last)) cut
+            (subst (λ (l : Logs). Takes setup (with_all h.applied l) me message h.applied (stand l (cut_in s) stamp sendings kept) outcome (standing_of stamp sendings kept last)) logs (h.takes stamp sendings kept));
+        knows = subst (λ (l : Logs). KnowsOwn (with_all h.applied l) last) logs h.knows;
         grown = subst (λ (l : Logs). length (own_log last) ≤ length (log_at l me) + 24) logs h.grown;
       };
     }
@@ -119,7 +118,7 @@ pub record Replays (setup : Setup) (r : Replica) (items front own : List LogItem
   pub can : AreOthers setup r from front
   pub fits : AllByRecursion (λ i. BodyFits setup i.body) items
   pub acts : (item : LogItem) (inst : Inst) → Contains items item → item.origin ≡ r.me → item.body ≡ body.Act inst → IsLone r items item inst
-  pub next : IsReadyFor setup r items → (learned : Replica) → IsReplica setup r.me learned → HasLearned front r learned → AreNext setup (known_to learned) learned.me learned.needs (standing_of 0 [] learned) own × AreEntered setup (known_to learned) learned.needs learned.table own
+  pub next : IsReadyFor setup r items → (learned : Replica) → IsReplica setup r.me learned → HasLearned front r learned → AreNext setup (known_to learned) learned.me learned.needs (standing_of 0 [] [] learned) own × AreEntered setup (known_to learned) learned.needs learned.table own
 
 -- ---- an act
 
@@ -141,14 +140,14 @@ act_lone setup r inst items is item other there mine act =
     act_is a b h = cc
 
 pub act_next : (setup : Setup) (r : Replica) (inst : Inst) (batch : Batch) (items : List LogItem) → IsReplica setup r.me r → InstFits setup.spec inst → Decides setup inst (view_of r) (decision.Act batch) → items ≡ batch.items → IsReadyFor setup r batch.items
-    → AreNext setup (known_to r) r.me r.needs (standing_of 0 [] r) items × AreEntered setup (known_to r) r.needs r.table items
+    → AreNext setup (known_to r) r.me r.needs (standing_of 0 [] [] r) items × AreEntered setup (known_to r) r.needs r.table items
 act_next setup r inst batch items own fits decides is ready =
     let item : LogItem = item_of (view_of r) (body.Act inst) in
     let there : Contains batch.items item = subst (λ (l : List LogItem). Contains l item) (sym decides.1) (0, omega arith, refl) in
-    let next : IsNext setup (known_to r) r.me r.needs (standing_of 0 [] r) item = record { is = refl; fits = fits; allowed = record { unbroken = decides.2; met = decides.0 }; along = ready.needs item inst there refl refl } in
+    let next : IsNext setup (known_to r) r.me r.needs (standing_of 0 [] [] r) item = record { is = refl; fits = fits; allowed = record { unbroken = decides.2; met = decides.0 }; along = ready.needs item inst there refl refl } in
     let entered : AreEntered setup (known_to r) r.needs r.table (item ∷ []) = ((ready.entries.acts item inst there (sym own.all.table.of.me) refl, ready.entries.needed), tt) in
     let these : item ∷ [] ≡ items = sym (is ∙ decides.1) in
-    (subst (AreNext setup (known_to r) r.me r.needs (standing_of 0 [] r)) these (next_one setup r r.needs item next), subst (AreEntered setup (known_to r) r.needs r.table) these entered)
+    (subst (AreNext setup (known_to r) r.me r.needs (standing_of 0 [] [] r)) these (next_one setup r r.needs item next), subst (AreEntered setup (known_to r) r.needs r.table) these entered)
 
 pub act_done : (setup : Setup) (old new : Replica) (inst : Inst) (batch : Batch) (items : List LogItem) → Decides setup inst (view_of old) (decision.Act batch) → items ≡ batch.items → HasLoggedAll setup (map (λ (i : LogItem). i.body) items) old new
     → HasAnswered setup inst old (outcomes.Done (length (own_log old))) new
@@ -162,16 +161,16 @@ nothing_learned setup r learned own h =
     let same : known_to learned ≡ known_to r = h.logs r.me tt (omega (arith, own.store.whole, own.view.within)) ∙ with_none r.me (known_to r) in
     (same, h.store.counts ∙ ap (map (λ (l : List LogItem). length l)) same ∙ sym own.store.counts)
 
-nothing_next : (setup : Setup) (r learned : Replica) (items : List LogItem) → IsReplica setup r.me r → HasLearned [] r learned → AreNext setup (known_to r) r.me r.needs (standing_of 0 [] r) items → AreEntered setup (known_to r) r.needs r.table items
-    → AreNext setup (known_to learned) learned.me learned.needs (standing_of 0 [] learned) items × AreEntered setup (known_to learned) learned.needs learned.table items
+nothing_next : (setup : Setup) (r learned : Replica) (items : List LogItem) → IsReplica setup r.me r → HasLearned [] r learned → AreNext setup (known_to r) r.me r.needs (standing_of 0 [] [] r) items → AreEntered setup (known_to r) r.needs r.table items
+    → AreNext setup (known_to learned) learned.me learned.needs (standing_of 0 [] [] learned) items × AreEntered setup (known_to learned) learned.needs learned.table items
 nothing_next setup r learned items own h next entered =
     let same = nothing_learned setup r learned own h in
     let s : Store = learned.store in
-    let q : Standing = standing_of 0 [] (record r { store = s }) in
-    let like : AreNext setup (known_to r) r.me r.needs q items = next_like setup (known_to r) r.me r.needs (standing_of 0 [] r) q items (ap (λ (l : Logs). log_at l r.me) (sym same.0)) (sym same.1) next in
+    let q : Standing = standing_of 0 [] [] (record r { store = s }) in
+    let like : AreNext setup (known_to r) r.me r.needs q items = next_like setup (known_to r) r.me r.needs (standing_of 0 [] [] r) q items (ap (λ (l : Logs). log_at l r.me) (sym same.0)) (sym same.1) next in
     let here : AreNext setup (logs_in s) r.me r.needs q items = subst (λ (l : Logs). AreNext setup l r.me r.needs q items) (sym same.0) like in
     let there : AreEntered setup (logs_in s) r.needs r.table items = subst (λ (l : Logs). AreEntered setup l r.needs r.table items) (sym same.0) entered in
-    (subst (λ (x : Replica). AreNext setup (known_to x) x.me x.needs (standing_of 0 [] x) items) (sym h.kept) here, subst (λ (x : Replica). AreEntered setup (known_to x) x.needs x.table items) (sym h.kept) there)
+    (subst (λ (x : Replica). AreNext setup (known_to x) x.me x.needs (standing_of 0 [] [] x) items) (sym h.kept) here, subst (λ (x : Replica). AreEntered setup (known_to x) x.needs x.table items) (sym h.kept) there)
 
 -- no items are the next of its own log, too
 no_others : (setup : Setup) (r : Replica) → IsReplica setup r.me r → AreOthers setup r r.me []
@@ -240,11 +239,11 @@ take_replays setup message r taken front accepts outs items plans is =
           let log : own_log learned ≡ own_log r = ap (log_at (known_to learned)) is_one.me_is ∙ ap (λ (l : Logs). log_at l me) (learned_logs setup r learned from front own others h) ∙ own_stays setup r from front others in
           let known_is : known_to learned ≡ logs = learned_logs setup r learned from front own others h in
           let cut : cut_in learned.store ≡ cut_after (cut_in r.store) front = learned_cut setup message r learned front me plans.admits is_one known_is in
-          let there : AreNext setup logs me learned.needs (standing_of 0 [] learned) (accepts ++ outs) = next_like setup logs me learned.needs start (standing_of 0 [] learned) (accepts ++ outs) (sym log) (sym cut) (all learned.needs) in
+          let there : AreNext setup logs me learned.needs (standing_of 0 [] [] learned) (accepts ++ outs) = next_like setup logs me learned.needs start (standing_of 0 [] [] learned) (accepts ++ outs) (sym log) (sym cut) (all learned.needs) in
           let entered : AreEntered setup logs r.needs r.table (accepts ++ outs) = plans_entered setup message r taken front accepts outs plans (subst (IsReadyFor setup r) is ready) in
           let needs : learned.needs ≡ r.needs = ap (λ (x : Replica). x.needs) h.kept in
           let table : learned.table ≡ r.table = ap (λ (x : Replica). x.table) h.kept in (
-            subst (λ i. AreNext setup (known_to learned) i learned.needs (standing_of 0 [] learned) (accepts ++ outs)) (sym is_one.me_is) (subst (λ (l : Logs). AreNext setup l me learned.needs (standing_of 0 [] learned) (accepts ++ outs)) (sym known_is) there),
+            subst (λ i. AreNext setup (known_to learned) i learned.needs (standing_of 0 [] [] learned) (accepts ++ outs)) (sym is_one.me_is) (subst (λ (l : Logs). AreNext setup l me learned.needs (standing_of 0 [] [] learned) (accepts ++ outs)) (sym known_is) there),
             subst (λ (l : Logs). AreEntered setup l learned.needs learned.table (accepts ++ outs)) (sym known_is) (subst (λ (n : List Need). AreEntered setup logs n learned.table (accepts ++ outs)) (sym needs) (subst (λ (t : Table). AreEntered setup logs r.needs t (accepts ++ outs)) (sym table) entered)),
           );
     }
@@ -369,7 +368,7 @@ pub has_replayed : (setup : Setup) (items front own : List LogItem) (old learned
 has_replayed setup items front own old learned new is h ready there learns logged =
     let next = (h.next ready learned there learns).0 in
     let bodies : List Body = map (λ (i : LogItem). i.body) own in
-    let p : Standing = standing_of 0 [] learned in
+    let p : Standing = standing_of 0 [] [] learned in
     let mine : learned.me ≡ old.me = there.me_is in
     let known = logged_known setup learned.needs own learned new (subst (λ i. IsReplica setup i learned) (sym mine) there) next logged in
     let longer = longer_by setup bodies learned new logged in
@@ -378,8 +377,8 @@ has_replayed setup items front own old learned new is h ready there learns logge
     record {
       own = subst (λ i. IsReplica setup i new) mine logged.own;
       knows = known ∙ ap (with_all own) (learned_known setup old learned h.from front is h.can learns) ∙ sym (with_all_append front own (known_to old)) ∙ ap (λ (l : List LogItem). with_all l (known_to old)) (sym h.items_are);
-      wants = ap (λ (q : Standing). q.wants) (logged.stands 0 []) ∙ keeps.0 ∙ ap (λ (r : Replica). r.wants) learns.kept;
-      told = ap (λ (q : Standing). q.told) (logged.stands 0 []) ∙ keeps.1 ∙ ap (λ (r : Replica). r.told) learns.kept;
+      wants = ap (λ (q : Standing). q.wants) (logged.stands 0 [] []) ∙ keeps.0 ∙ ap (λ (r : Replica). r.wants) learns.kept;
+      told = ap (λ (q : Standing). q.told) (logged.stands 0 [] []) ∙ keeps.1 ∙ ap (λ (r : Replica). r.told) learns.kept;
       grown = omega (arith, longer, length-map own (λ (i : LogItem). i.body), ap length log, h.few);
     }
 

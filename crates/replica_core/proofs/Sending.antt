@@ -54,7 +54,7 @@ pub sent_fits : (setup : Setup) (r : Replica) (to number stamp : ℕ) (cut : Lis
     → items ≡ take 16 (drop (slice_index (slice_index_or r.told to []) r.me) (own_log r)) → wants ≡ map (want_less (holds_of setup r)) r.wants
     → MessageFits setup to (record { from = r.me; to = to; number = number; stamp = stamp; cut = cut; items = items; wants = wants })
 sent_fits setup r to number stamp cut items wants own other cut_is items_are wants_are =
-    let p : Standing = standing_of 0 [] r in
+    let p : Standing = standing_of 0 [] [] r in
     let message : List ℕ → List LogItem → List Want → Message = λ cut items wants. record { from = r.me; to = to; number = number; stamp = stamp; cut = cut; items = items; wants = wants } in
     let fits = message_fits setup (known_to r) r.me to number stamp p (record {
       place = own.view.within;

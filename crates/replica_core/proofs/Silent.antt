@@ -12,16 +12,16 @@ use Rattle.run_model.specs.Logs.{Logs}
 use Rattle.run_model.specs.Wants.{still_wanted}
 use Rattle.run_model.specs.Worlds.{Standing, joined, no_cut}
 use Rattle.run_model.specs.Steps.{accepts_of, dropped, received}
-use Rattle.run_model.specs.Fitting.{WantFits}
-use Rattle.message_laws.specs.Heeded.{AreFitting, Heeds, IsAddressed, IsPartOf, silent, with_items}
-use Rattle.message_laws.specs.Views.{standing_in}
+use Rattle.run_model.specs.Fitting.{MessageFits, WantFits}
+use Rattle.message_laws.specs.Heeded.{AreFitting, Heeds, IsAddressed, IsPartOf, MayApply, silent}
+use Rattle.message_laws.specs.Views.{View, own_items, standing_in}
 use Rattle.message_drafts.specs.Taking.{IsTaken, TakesHeeded}
 use Rattle.message_drafts.specs.declared.taken.Taken.{Taken}
 use Rattle.replica_core.specs.Decisions.{IsHeeded}
-use Rattle.replica_core.specs.Replicas.{HasTaken, IsReplica, holds_of, known_to, own_log, standing_of, view_of}
+use Rattle.replica_core.specs.Replicas.{HasTaken, IsReplica, holds_of, known_to, standing_of, view_of}
 use Rattle.replica_core.specs.declared.replica.Replica.{Replica}
 use Rattle.replica_core.proofs.Doing.{dropped_own}
-use Rattle.replica_core.proofs.Items.{set_back, with_none}
+use Rattle.replica_core.proofs.Items.{set_back}
 
 -- a cut of nothing tells nothing new
 joined_nothing : (xs : List ℕ) (n : ℕ) → length xs ≡ n → joined xs (replicate n 0) ≡ xs
@@ -44,23 +44,22 @@ took_nothing setup message r new own is =
     let known : Logs = known_to r in
     let quiet : Message = silent setup.replicas message in
     let left : Replica = record r { wants = still_wanted setup.replicas (holds_of setup r) r.wants } in
-    let none : with_items message.from [] known ≡ known = with_none message.from known in
     subst (HasTaken setup quiet r (outcomes.Took message.number 0 0 0)) (sym is) (record {
       own = dropped_own setup r left own refl;
       applied = [];
-      takes = λ stamp sendings.
-          let p : Standing = standing_of stamp sendings r in
+      takes = λ stamp sendings kept.
+          let p : Standing = standing_of stamp sendings kept r in
           let told : received me quiet [] p ≡ p = ap (λ (t : List (List ℕ)). let q : Standing = record p { told = t } in q) (told_nothing setup.replicas r.told message.from own.told_each) in
           record {
             gave = 0;
-            before_answers = standing_of stamp sendings left;
+            before_answers = standing_of stamp sendings kept left;
             admitted = record { rest = []; prefix = refl; ready = tt; longest = tt };
-            before_is = sym (ap (λ (l : Logs). dropped setup l me (received me quiet [] p)) none ∙ ap (dropped setup known me) told);
+            before_is = sym (ap (dropped setup known me) told);
             becomes = refl;
             gave_is = omega arith;
             outcome_is = refl;
           };
-      knows = sym (set_back known me) ∙ ap (λ (l : Logs). slice_set l me (own_log r)) (sym none);
+      knows = sym (set_back known me);
       grown = omega arith;
     })
 
@@ -73,24 +72,23 @@ no_items [] long = refl
 no_items (x ∷ xs) long = absurd (omega (arith, long))
 
 -- nothing is in the batch of such a message
-pub nothing_taken : (setup : Setup) (message : Message) (r : Replica) (taken : Taken) → IsTaken setup (silent setup.replicas message) (view_of r) taken → (taken.batch.items ≡ []) × (outcomes.Took message.number 0 0 0 ≡ outcomes.Took message.number taken.applied taken.accepted taken.gave)
-nothing_taken setup message r taken decided =
+pub nothing_taken : (setup : Setup) (message : Message) (v : View) (taken : Taken) → IsTaken setup (silent setup.replicas message) v taken → (taken.batch.items ≡ []) × (outcomes.Took message.number 0 0 0 ≡ outcomes.Took message.number taken.applied taken.accepted taken.gave)
+nothing_taken setup message v taken decided =
     let t = decided.takes in
     let nil : decided.applied ≡ [] = none_of decided.applied t.admitted.rest t.admitted.prefix in
-    let accepts : accepts_of r.me decided.applied ≡ [] = ap (accepts_of r.me) nil in
-    let logs : Logs = with_items message.from decided.applied (known_to r) in
-    let before : t.before_answers.log ≡ own_log r = ap (λ (p : Standing). p.log) t.before_is ∙ ap (λ (l : List LogItem). (received r.me (silent setup.replicas message) l (standing_in (view_of r))).log) nil in
+    let accepts : accepts_of v.me decided.applied ≡ [] = ap (accepts_of v.me) nil in
+    let before : t.before_answers.log ≡ own_items v = ap (λ (p : Standing). p.log) t.before_is ∙ ap (λ (l : List LogItem). (received v.me (silent setup.replicas message) l (standing_in v)).log) nil in
     let after : decided.after.log ≡ t.before_answers.log = ap (λ (p : Standing). p.log) t.becomes in
     let gave : t.gave ≡ 0 = omega (arith, ap length after, t.gave_is) in
-    let own : decided.own ≡ [] = no_items decided.own (omega (arith, ap length decided.longer, ap length after, ap length before, length-append (own_log r) decided.own)) in (
+    let own : decided.own ≡ [] = no_items decided.own (omega (arith, ap length decided.longer, ap length after, ap length before, length-append (own_items v) decided.own)) in (
       decided.batch ∙ ap (λ (l : List LogItem). l ++ decided.own) nil ∙ own,
-      sym (t.outcome_is ∙ ap (λ (l : List LogItem). outcomes.Took message.number (length l) (length (accepts_of r.me l)) t.gave) nil ∙ ap (outcomes.Took message.number 0 0) gave),
+      sym (t.outcome_is ∙ ap (λ (l : List LogItem). outcomes.Took message.number (length l) (length (accepts_of v.me l)) t.gave) nil ∙ ap (outcomes.Took message.number 0 0) gave),
     )
 
 -- and that is what was done
 pub nothing_done : (setup : Setup) (message : Message) (r new : Replica) (taken : Taken) → IsReplica setup r.me r → new ≡ record r { wants = still_wanted setup.replicas (holds_of setup r) r.wants } → IsTaken setup (silent setup.replicas message) (view_of r) taken
     → HasTaken setup (silent setup.replicas message) r (outcomes.Took message.number taken.applied taken.accepted taken.gave) new
-nothing_done setup message r new taken own is decided = subst (λ (o : Outcome). HasTaken setup (silent setup.replicas message) r o new) (nothing_taken setup message r taken decided).1 (took_nothing setup message r new own is)
+nothing_done setup message r new taken own is decided = subst (λ (o : Outcome). HasTaken setup (silent setup.replicas message) r o new) (nothing_taken setup message (view_of r) taken decided).1 (took_nothing setup message r new own is)
 
 -- ---- what is decided on a message that may be any
 
@@ -102,34 +100,46 @@ fitting_fit setup (want ∷ wants) fitting (inl (fits, rest, is, behind)) =
     (subst (AllByRecursion (WantFits setup)) (sym is) (fits, more.0), omega (arith, ap length is, more.1))
 fitting_fit setup (want ∷ wants) fitting (inr (misfit, behind)) = let more = fitting_fit setup wants fitting behind in (more.0, omega (arith, more.1))
 
--- what is heeded of a message that is addressed is heeded whole
-is_heeded : (setup : Setup) (r : Replica) (message heeded : Message) → IsAddressed setup r.me message → IsPartOf setup (view_of r) message heeded → IsHeeded setup r heeded
-is_heeded setup r message heeded addressed part =
+-- what is heeded of a message that is addressed fits
+heeded_fits : (setup : Setup) (v : View) (message heeded : Message) → IsAddressed setup v.me message → IsPartOf setup v message heeded → MessageFits setup v.me heeded
+heeded_fits setup v message heeded addressed part =
     let wants = fitting_fit setup (take 8 message.wants) heeded.wants part.wants in
     let items : List LogItem = heeded.items in
-    subst (IsHeeded setup r) (sym part.all_else) (record {
-      fits = record {
-        sender = addressed.sender;
-        other = addressed.other;
-        receiver = addressed.receiver;
-        cut = addressed.cut;
-        items = part.items.may.fits;
-        first = part.items.may.first;
-        row = part.items.may.row;
-        few_items = omega (arith, ap length part.items.front, length-append items part.items.rest, length-take 16 message.items);
-        wants = wants.0;
-        few_wants = omega (arith, wants.1, length-take 8 message.wants);
-      };
-      may = part.items.may;
+    subst (MessageFits setup v.me) (sym part.all_else) (record {
+      sender = addressed.sender;
+      other = addressed.other;
+      receiver = addressed.receiver;
+      cut = addressed.cut;
+      items = part.items.may.fits;
+      first = part.items.may.first;
+      row = part.items.may.row;
+      few_items = omega (arith, ap length part.items.front, length-append items part.items.rest, length-take 16 message.items);
+      wants = wants.0;
+      few_wants = omega (arith, wants.1, length-take 8 message.wants);
     })
 
--- it is what is decided on a message that is heeded, or nothing
-pub heeded_or_nothing : (setup : Setup) (r : Replica) (message : Message) (taken : Taken) → TakesHeeded setup (view_of r) message taken → ((heeded : Message) × IsHeeded setup r heeded × IsTaken setup heeded (view_of r) taken) ⊎ (taken.batch.items ≡ [])
-heeded_or_nothing setup r message taken takes = either takes.heeds takes.takes
+-- and its items may be applied
+heeded_may : (setup : Setup) (v : View) (message heeded : Message) → IsPartOf setup v message heeded → MayApply setup v heeded.from heeded.items
+heeded_may setup v message heeded part = subst (λ (m : Message). MayApply setup v m.from m.items) (sym part.all_else) part.items.may
+
+is_heeded : (setup : Setup) (r : Replica) (message heeded : Message) → IsAddressed setup r.me message → IsPartOf setup (view_of r) message heeded → IsHeeded setup r heeded
+is_heeded setup r message heeded addressed part = record { fits = heeded_fits setup (view_of r) message heeded addressed part; may = heeded_may setup (view_of r) message heeded part }
+
+-- what is decided on is a message that fits, or nothing
+pub taken_or_nothing : (setup : Setup) (v : View) (message : Message) (taken : Taken) → TakesHeeded setup v message taken
+    → ((heeded : Message) × MessageFits setup v.me heeded × MayApply setup v heeded.from heeded.items × IsTaken setup heeded v taken) ⊎ (taken.batch.items ≡ [])
+taken_or_nothing setup v message taken takes = either takes.heeds takes.takes
   where
-    either : Heeds setup (view_of r) message takes.heeded → IsTaken setup takes.heeded (view_of r) taken → ((heeded : Message) × IsHeeded setup r heeded × IsTaken setup heeded (view_of r) taken) ⊎ (taken.batch.items ≡ [])
-    either (inl (addressed, part)) decided = inl (takes.heeded, is_heeded setup r message takes.heeded addressed part, decided)
-    either (inr (astray, is)) decided = inr (nothing_taken setup message r taken (subst (λ (m : Message). IsTaken setup m (view_of r) taken) is decided)).0
+    either : Heeds setup v message takes.heeded → IsTaken setup takes.heeded v taken → ((heeded : Message) × MessageFits setup v.me heeded × MayApply setup v heeded.from heeded.items × IsTaken setup heeded v taken) ⊎ (taken.batch.items ≡ [])
+    either (inl (addressed, part)) decided = inl (takes.heeded, heeded_fits setup v message takes.heeded addressed part, heeded_may setup v message takes.heeded part, decided)
+    either (inr (astray, is)) decided = inr (nothing_taken setup message v taken (subst (λ (m : Message). IsTaken setup m v taken) is decided)).0
+
+-- so for a replica
+pub heeded_or_nothing : (setup : Setup) (r : Replica) (message : Message) (taken : Taken) → TakesHeeded setup (view_of r) message taken → ((heeded : Message) × IsHeeded setup r heeded × IsTaken setup heeded (view_of r) taken) ⊎ (taken.batch.items ≡ [])
+heeded_or_nothing setup r message taken takes = elim (taken_or_nothing setup (view_of r) message taken takes) [
+  | inl (heeded, fits, may, decided) ↦ inl (heeded, record { fits = fits; may = may }, decided)
+  | inr none ↦ inr none
+]
 
 -- what is heeded of a message that is addressed, and of one that isn't
 pub heeded_part : (setup : Setup) (r : Replica) (message heeded : Message) → IsAddressed setup r.me message → Heeds setup (view_of r) message heeded → (heeded.from ≡ message.from) × (heeded.cut ≡ message.cut) × (heeded.number ≡ message.number) × IsHeeded setup r heeded

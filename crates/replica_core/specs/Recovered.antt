@@ -1,13 +1,12 @@
 -- A replica that is made again from the batches that it committed.
 use Rattle.std.specs.Prelude.{◌≡◌, ℕ, ◌+◌, ◌≤◌, List, [], ◌∷◌, length, replicate}
-use Rattle.std.specs.List.{flat_map}
 use Rattle.spec_model.specs.declared.plan.Setup.{Setup}
 use Rattle.spec_model.specs.declared.log.LogItem.{LogItem}
 use Rattle.run_model.specs.declared.batch.Batch.{Batch}
-use Rattle.run_model.specs.Worlds.{no_cut}
-use Rattle.causal_store.specs.Agreeing.{with_all}
+use Rattle.run_model.specs.Worlds.{no_told}
 use Rattle.replica_core.specs.Decisions.{IsDecided}
-use Rattle.run_model.specs.Logs.{Logs}
+use Rattle.run_model.specs.Batches.{items_of}
+use Rattle.run_model.specs.Logs.{Logs, with_all}
 use Rattle.replica_core.specs.Replicas.{IsReplica, known_to, own_log}
 use Rattle.message_laws.specs.Views.{seeing}
 use Rattle.replica_core.specs.declared.replica.Replica.{Replica}
@@ -31,7 +30,7 @@ no_logs replicas = replicate replicas []
 
 -- the logs once the items of these batches are applied and logged
 abbrev pub logs_after : ℕ → List Batch → Logs
-logs_after replicas batches = with_all (flat_map (λ batch. batch.items) batches) (no_logs replicas)
+logs_after replicas batches = with_all (items_of batches) (no_logs replicas)
 
 -- replica me decides on these batches from its first step on
 abbrev pub AreCommitted : Setup → ℕ → List Batch → Type 0
@@ -48,4 +47,4 @@ pub record IsRecovered (setup : Setup) (me : ℕ) (batches : List Batch) (r : Re
   pub own : IsReplica setup me r
   pub knows : known_to r ≡ logs_after setup.replicas batches
   pub wants : r.wants ≡ []
-  pub told : r.told ≡ replicate setup.replicas (no_cut setup.replicas)
+  pub told : r.told ≡ no_told setup.replicas

@@ -1,5 +1,5 @@
 -- A replica of the code, as the definitions of runs see it.
-use Rattle.std.specs.Prelude.{◌≡◌, ℕ, ◌+◌, ◌<◌, ◌≤◌, List, [], length, slice_set}
+use Rattle.std.specs.Prelude.{◌≡◌, ℕ, ◌+◌, ◌<◌, ◌≤◌, List, length, slice_set}
 use Rattle.std.specs.List.{AllByRecursion}
 use Rattle.spec_model.specs.declared.plan.Setup.{Setup}
 use Rattle.spec_model.specs.declared.instance.Inst.{Inst}
@@ -7,11 +7,12 @@ use Rattle.spec_model.specs.declared.log.Body.{Body}
 use Rattle.spec_model.specs.declared.log.LogItem.{LogItem}
 use Rattle.spec_model.specs.declared.right.Need.{Need}
 use Rattle.spec_model.specs.declared.right.Held.{Held}
+use Rattle.run_model.specs.declared.batch.Batch.{Batch}
 use Rattle.run_model.specs.declared.message.Message.{Message}
 use Rattle.run_model.specs.declared.step.Outcome.{Outcome}
-use Rattle.run_model.specs.Logs.{Logs, log_at}
+use Rattle.run_model.specs.Logs.{Logs, log_at, with_all}
 use Rattle.run_model.specs.Holding.{held_of}
-use Rattle.run_model.specs.Worlds.{Standing, Sending, logged, logged_all}
+use Rattle.run_model.specs.Worlds.{Standing, Sending, Up, logged, logged_all}
 use Rattle.run_model.specs.Steps.{Requests, Takes}
 use Rattle.run_model.specs.Fitting.{AreInRow, IsPlaced, SetupFits, WantFits}
 use Rattle.causal_store.specs.Stores.{IsStore, cut_in, logs_in}
@@ -32,15 +33,17 @@ own_log r = log_at (known_to r) r.me
 abbrev pub view_of : Replica → View
 view_of r = record { me = r.me; known = known_to r; cut = cut_in r.store }
 
--- how it stands in a world, by its last stamp and the steps in which it sent
-abbrev pub standing_of : ℕ → List Sending → Replica → Standing
-standing_of stamp sendings r = record {
+-- how it stands in a world, by its last stamp, the steps in which it sent and the batches that it kept
+abbrev pub standing_of : ℕ → List Sending → List Batch → Replica → Standing
+standing_of stamp sendings kept r = record {
   log = own_log r;
   cut = cut_in r.store;
   stamp = stamp;
   wants = r.wants;
   told = r.told;
   sendings = sendings;
+  running = Up;
+  kept = kept;
 }
 
 -- what it holds of what is needed
@@ -70,19 +73,19 @@ KnowsOwn known r = known_to r ≡ slice_set known r.me (own_log r)
 -- the replica once it has logged this body, and stands as the definitions say
 pub record HasLogged (setup : Setup) (b : Body) (old new : Replica) : Type 0 where
   pub own : IsReplica setup old.me new
-  pub stands : (stamp : ℕ) (sendings : List Sending) → standing_of stamp sendings new ≡ logged old.me b (standing_of stamp sendings old)
+  pub stands : (stamp : ℕ) (sendings : List Sending) (kept : List Batch) → standing_of stamp sendings kept new ≡ logged old.me b (standing_of stamp sendings kept old)
   pub knows : KnowsOwn (known_to old) new
 
 -- or several bodies
 pub record HasLoggedAll (setup : Setup) (bodies : List Body) (old new : Replica) : Type 0 where
   pub own : IsReplica setup old.me new
-  pub stands : (stamp : ℕ) (sendings : List Sending) → standing_of stamp sendings new ≡ logged_all old.me bodies (standing_of stamp sendings old)
+  pub stands : (stamp : ℕ) (sendings : List Sending) (kept : List Batch) → standing_of stamp sendings kept new ≡ logged_all old.me bodies (standing_of stamp sendings kept old)
   pub knows : KnowsOwn (known_to old) new
 
 -- a request was answered so
 pub record HasAnswered (setup : Setup) (inst : Inst) (old : Replica) (outcome : Outcome) (new : Replica) : Type 0 where
   pub own : IsReplica setup old.me new
-  pub requests : (stamp : ℕ) (sendings : List Sending) → Requests setup (known_to old) old.me inst (standing_of stamp sendings old) outcome (standing_of stamp sendings new)
+  pub requests : (stamp : ℕ) (sendings : List Sending) (kept : List Batch) → Requests setup (known_to old) old.me inst (standing_of stamp sendings kept old) outcome (standing_of stamp sendings kept new)
   pub knows : KnowsOwn (known_to old) new
   pub grown : length (own_log new) ≤ length (own_log old) + 1
 
@@ -104,7 +107,7 @@ pub record HasLearned (items : List LogItem) (old new : Replica) : Type 0 where
 pub record HasTaken (setup : Setup) (message : Message) (old : Replica) (outcome : Outcome) (new : Replica) : Type 0 where
   pub own : IsReplica setup old.me new
   pub applied : List LogItem
-  pub takes : (stamp : ℕ) (sendings : List Sending)
-      → Takes setup (with_items message.from applied (known_to old)) old.me message applied (standing_of stamp sendings old) outcome (standing_of stamp sendings new)
-  pub knows : KnowsOwn (with_items message.from applied (known_to old)) new
+  pub takes : (stamp : ℕ) (sendings : List Sending) (kept : List Batch)
+      → Takes setup (with_all applied (known_to old)) old.me message applied (standing_of stamp sendings kept old) outcome (standing_of stamp sendings kept new)
+  pub knows : KnowsOwn (with_all applied (known_to old)) new
   pub grown : length (own_log new) ≤ length (own_log old) + 24

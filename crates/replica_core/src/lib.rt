@@ -11,6 +11,6 @@ mod requesting;
 mod taking;
 
 pub use decision::Decision;
-pub use laws::{breaks_change_nothing, commits_more};
+pub use laws::{breaks_change_nothing, commits_more, decided_grow};
 pub use message_drafts::Taken;
 pub use replica::Replica;

@@ -31,7 +31,7 @@ impl Replica {
     }
 
     /// Applies and logs again what it decided on, for which room was made.
-    fn replay(&mut self, setup: &Setup, batch: &Batch)
+    pub fn replay(&mut self, setup: &Setup, batch: &Batch)
         requires own { IsReplica setup.now self.old.me self.old }
         requires decided { IsDecided setup.now (view_of self.old) batch.now }
         requires room { HasRoom 24 self.old }

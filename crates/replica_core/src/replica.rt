@@ -1,6 +1,6 @@
 //! A replica of a run.
 
-ghost use Rattle.std.specs.Prelude.{◌≡◌, ◌<◌, ◌≤◌, ◌++◌, ◌∷◌, [], List, IfOk, OnOk, length, map, replicate, slice_set};
+ghost use Rattle.std.specs.Prelude.{◌≡◌, ◌<◌, ◌≤◌, ◌++◌, ◌∷◌, [], true, List, IfOk, OnOk, length, map, replicate, slice_set};
 ghost use Rattle.spec_model.specs.declared.log.LogItem.{LogItem as ItemOf};
 ghost use Rattle.spec_model.specs.declared.log.Body.{Body as BodyOf};
 ghost use Rattle.run_model.specs.Fitting.{BodyFits, SetupFits};
@@ -68,7 +68,7 @@ impl Replica {
         requires place { me < setup.now.replicas }
         requires few { setup.now.replicas ≤ 16 }
         ensures own { IfOk result (IsReplica setup.now me) }
-        ensures stands { IfOk result (λ r. standing_of 0 [] r ≡ first_standing setup.now.replicas) }
+        ensures stands { IfOk result (λ r. standing_of 0 [] [] r ≡ first_standing setup.now.replicas true) }
         ensures knows { IfOk result (λ r. known_to r ≡ replicate setup.now.replicas []) }
     {
         let store = Store::begin(alloc, setup.replicas)?;
@@ -147,7 +147,7 @@ impl Replica {
     /// Logs its next item.
     fn put(&mut self, setup: &Setup, item: &LogItem)
         requires own { IsReplica setup.now self.old.me self.old }
-        requires next { IsNext setup.now (known_to self.old) self.old.me self.old.needs (standing_of 0 [] self.old) item.now }
+        requires next { IsNext setup.now (known_to self.old) self.old.me self.old.needs (standing_of 0 [] [] self.old) item.now }
         requires entry { HasEntryFor setup.now item.now.body (taken_by (known_to self.old) item.now.body) self.old.needs self.old.table }
         requires room { HasRoom 1 self.old }
         requires ready { (items : List ItemOf) × HasRoomFor self.old.store (item.now ∷ items) }
@@ -165,7 +165,7 @@ impl Replica {
     /// Logs its next items, one after the other.
     pub(crate) fn put_all(&mut self, setup: &Setup, items: &[LogItem])
         requires own { IsReplica setup.now self.old.me self.old }
-        requires next { AreNext setup.now (known_to self.old) self.old.me self.old.needs (standing_of 0 [] self.old) items.now }
+        requires next { AreNext setup.now (known_to self.old) self.old.me self.old.needs (standing_of 0 [] [] self.old) items.now }
         requires entries { AreEntered setup.now (known_to self.old) self.old.needs self.old.table items.now }
         requires room { HasRoom (length items.now) self.old }
         requires ready { (more : List ItemOf) × HasRoomFor self.old.store (items.now ++ more) }

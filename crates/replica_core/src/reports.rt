@@ -7,8 +7,10 @@ ghost use Rattle.run_model.specs.Finals.{final_of};
 ghost use Rattle.causal_store.specs.Stores.{IsShort, IsStore};
 
 use crate::replica::Replica;
+use causal_store::Store;
 use effect_model::{atom_at, atom_count, cell_at, cell_count, universe_is_all};
 use ind_base::{List, NoMemory};
+use rights_table::Table;
 use run_model::{CellValue, Final};
 use spec_model::{Atom, Setup, Spec};
 use std::alloc::Global;
@@ -16,6 +18,20 @@ use std::alloc::Global;
 impl Replica {
     ghost use Rattle.replica_core.specs.Replicas.{IsReplica, known_to, standing_of};
     ghost use Rattle.replica_core.specs.Shown.{is_true_now, value_now};
+
+    /// What it has applied.
+    pub fn store(&self) -> &Store
+        ensures { result.now ≡ self.now.store }
+    {
+        &self.store
+    }
+
+    /// What it holds.
+    pub fn table(&self) -> &Table
+        ensures { result.now ≡ self.now.table }
+    {
+        &self.table
+    }
 
     /// Adds an atom that is true.
     fn push_truth(&self, spec: &Spec, truths: &mut List<Atom>, atom: &Atom) -> Result<(), NoMemory>
@@ -65,7 +81,7 @@ impl Replica {
     pub fn last(&self, alloc: Global, setup: &Setup) -> Result<Final, NoMemory>
         requires own { IsReplica setup.now self.now.me self.now }
         requires short { IsShort self.now.store }
-        ensures { IfOk result (λ f. f ≡ final_of setup.now (known_to self.now) self.now.me (standing_of 0 [] self.now)) }
+        ensures { IfOk result (λ f. f ≡ final_of setup.now (known_to self.now) self.now.me (standing_of 0 [] [] self.now)) }
     {
         Ok(Final {
             cut: self.store.cut(),

@@ -9,7 +9,7 @@ ghost use Rattle.run_model.specs.declared.step.Outcome.TheVariants as outcomes;
 ghost use Rattle.run_model.specs.Steps.{message_of};
 ghost use Rattle.run_model.specs.Fitting.{MessageFits};
 ghost use Rattle.run_model.specs.Wants.{noted, want_less as less, want_of as wanted};
-ghost use Rattle.causal_store.specs.Agreeing.{with_all};
+ghost use Rattle.run_model.specs.Logs.{with_all};
 ghost use Rattle.rights_table.specs.Lacks.{lacking_of};
 ghost use Rattle.message_laws.specs.Views.{item_of};
 ghost use Rattle.replica_core.specs.declared.decision.Decision.TheVariants as decision;
@@ -175,7 +175,7 @@ impl Replica {
         requires own { IsReplica setup.now self.now.me self.now }
         requires other { to ≢ self.now.me }
         requires place { to < setup.now.replicas }
-        ensures message { IfOk result (λ m. m ≡ message_of setup.now (known_to self.now) self.now.me to number stamp (standing_of 0 [] self.now)) }
+        ensures message { IfOk result (λ m. m ≡ message_of setup.now (known_to self.now) self.now.me to number stamp (standing_of 0 [] [] self.now)) }
         ensures fits { IfOk result (MessageFits setup.now to) }
     {
         let items = next_items(alloc, self.store.log(self.me), self.known_by(to))?;

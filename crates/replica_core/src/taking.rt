@@ -7,7 +7,7 @@ ghost use Rattle.run_model.specs.declared.step.Outcome.TheVariants as outcomes;
 ghost use Rattle.run_model.specs.Levels.{is_met};
 ghost use Rattle.run_model.specs.Wants.{need_of as needed, still_wanted};
 ghost use Rattle.run_model.specs.Worlds.{joined as joined_with};
-ghost use Rattle.causal_store.specs.Agreeing.{with_all};
+ghost use Rattle.run_model.specs.Logs.{with_all};
 ghost use Rattle.causal_store.specs.Stores.{HasRoomFor};
 ghost use Rattle.message_laws.specs.Heeded.{Heeds};
 ghost use Rattle.message_drafts.specs.Taking.{IsTaken, TakesHeeded};

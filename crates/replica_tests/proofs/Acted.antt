@@ -6,8 +6,7 @@ use Rattle.spec_model.specs.declared.instance.Inst.{Inst}
 use Rattle.spec_model.specs.Fits.{InstFits}
 use Rattle.run_model.specs.declared.batch.Batch.{Batch}
 use Rattle.run_model.specs.declared.step.Outcome.{Outcome}
-use Rattle.run_model.specs.Logs.{Logs, log_at}
-use Rattle.causal_store.specs.Agreeing.{with_all}
+use Rattle.run_model.specs.Logs.{Logs, log_at, with_all}
 use Rattle.replica_core.specs.Decisions.{Decides}
 use Rattle.replica_core.specs.Laws.{CommitsMore}
 use Rattle.replica_core.specs.Recovered.{AreCommitted, IsRecovered, no_logs}

@@ -1,7 +1,7 @@
+use Rattle.run_model.specs.Logs.{cut_after}
 use Rattle.std.proofs.Common.{◌+◌, ℕ, List, length, drop, sym, ap, subst, ◌∙◌, arith, length-set}
 use Rattle.spec_model.specs.declared.log.LogItem.{LogItem}
 use Rattle.run_model.specs.Fitting.{IsPlaced}
-use Rattle.run_model.specs.Steps.{cut_after}
 use Rattle.message_drafts.proofs.Places.{drop_at_item}
 use Rattle.message_drafts.proofs.logging.seen_after.Goals as goal
 

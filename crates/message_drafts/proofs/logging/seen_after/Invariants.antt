@@ -1,5 +1,5 @@
+use Rattle.run_model.specs.Logs.{cut_after}
 use Rattle.std.specs.Prelude.{◌≡◌, drop, length}
-use Rattle.run_model.specs.Steps.{cut_after}
 use Rattle.message_drafts.proofs.logging.seen_after.Given as goal
 
 -- what the others lead to from here is what all lead to

@@ -1,10 +1,10 @@
+use Rattle.run_model.specs.Logs.{cut_after}
 use Rattle.std.proofs.Common.{◌≡◌, ℕ, List, length, take, sym, ap, subst, ◌∙◌, arith}
 use Rattle.std.specs.Prelude.{All, slice_index}
 use Rattle.std.proofs.lemmas.Result.{IfOk-weaker}
 use Rattle.effect_model.proofs.Sizes.{all_at}
 use Rattle.spec_model.specs.declared.log.LogItem.{LogItem}
 use Rattle.run_model.specs.Fitting.{IsPlaced}
-use Rattle.run_model.specs.Steps.{cut_after}
 use Rattle.message_drafts.proofs.Decisions.{batched_as, own_count, ready_placed, takes_heeded}
 use Rattle.message_drafts.proofs.taking.take_addressed.Goals as goal
 

@@ -1,5 +1,5 @@
 use Rattle.std.proofs.Common.{subst, sym, ap, ◌∙◌, arith}
-use Rattle.causal_store.specs.Agreeing.{with_all}
+use Rattle.run_model.specs.Logs.{with_all}
 use Rattle.replica_core.specs.Replicas.{view_of}
 use Rattle.message_laws.specs.Views.{View}
 use Rattle.replica_core.specs.Decisions.{Decides}

@@ -1,6 +1,6 @@
 use Rattle.std.proofs.Common.{[], List, ap, ◌∙◌, length, sym, subst, arith}
 use Rattle.spec_model.specs.declared.log.LogItem.{LogItem}
-use Rattle.causal_store.specs.Agreeing.{with_all}
+use Rattle.run_model.specs.Logs.{with_all}
 use Rattle.causal_store.specs.Stores.{HasRoomFor}
 use Rattle.std.proofs.lemmas.List.{append-nil}
 use Rattle.replica_core.specs.Replicas.{known_to}

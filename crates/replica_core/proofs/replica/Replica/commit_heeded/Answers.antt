@@ -1,6 +1,6 @@
 use Rattle.std.proofs.Common.{◌≡◌, ◌++◌, List, length, ap, sym, subst, ◌∙◌, arith, drop, take}
 use Rattle.spec_model.specs.declared.log.LogItem.{LogItem}
-use Rattle.causal_store.specs.Agreeing.{with_all}
+use Rattle.run_model.specs.Logs.{with_all}
 use Rattle.replica_core.specs.Replicas.{known_to}
 use Rattle.replica_core.specs.Decisions.{IsReadyFor}
 use Rattle.replica_core.proofs.Committed.{accepted_within, joined_back}

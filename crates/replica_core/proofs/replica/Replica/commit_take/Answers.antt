@@ -1,6 +1,6 @@
 use Rattle.std.proofs.Common.{◌≡◌, List, false, true, sym, ap, subst, ◌∙◌}
 use Rattle.spec_model.specs.declared.log.LogItem.{LogItem}
-use Rattle.causal_store.specs.Agreeing.{with_all}
+use Rattle.run_model.specs.Logs.{with_all}
 use Rattle.run_model.specs.declared.message.Message.{Message}
 use Rattle.run_model.specs.declared.step.Outcome.TheVariants as outcomes
 use Rattle.message_drafts.specs.Taking.{IsTaken}
@@ -41,5 +41,5 @@ returns-else-is_addressed-clause-known c =
     let taken = c.args.taken.now in
     let decided = c.requires.decided in
     let is = heeded_nothing setup r c.args.message.now decided.heeded (λ addressed. absurd (let wrong : false ≡ true = sym c.if-is_addressed.false ∙ c.is_addressed.ensures.1 addressed in cc)) decided.heeds in
-    let none = (nothing_taken setup c.args.message.now r taken (subst (λ (m : Message). IsTaken setup m (view_of r) taken) is decided.takes)).0 in
+    let none = (nothing_taken setup c.args.message.now (view_of r) taken (subst (λ (m : Message). IsTaken setup m (view_of r) taken) is decided.takes)).0 in
     ap known_to c.drop_met.ensures ∙ ap (λ (l : List LogItem). with_all l (known_to r)) (sym none)

@@ -106,7 +106,7 @@ put_all-requires-clause-room c =
     record { splits = c.requires.splits.4; ready = c.requires.ready; is = heard_so m old c.hear.new.self c.args.from c.args.cut.now c.requires.splits.2 c.requires.splits.3 c.hear.ensures } in
     let learned : AtLearned setup m taken old c.hear.new.self c.learn.new.self front accepts outs = record { at = heard; own = c.learn.ensures.own; by = c.learn.ensures.learned } in
     let plans = plans_of setup m old taken front accepts outs c.requires.splits.4 in
-    let same : length (own_log c.learn.new.self) ≡ length (own_log old) = ap (λ (p : Standing). length p.log) ((is_after setup m taken old c.hear.new.self c.learn.new.self front accepts outs learned).stands 0 []) in
+    let same : length (own_log c.learn.new.self) ≡ length (own_log old) = ap (λ (p : Standing). length p.log) ((is_after setup m taken old c.hear.new.self c.learn.new.self front accepts outs learned).stands 0 [] []) in
     omega (arith, same, plans.few_accepts, c.requires.room)
 
 pub put_all-requires-clause-ready : goal.put_all-requires-clause-ready
@@ -197,7 +197,7 @@ put_all-requires-2-clause-room c =
     record { splits = c.requires.splits.4; ready = c.requires.ready; is = heard_so m old c.hear.new.self c.args.from c.args.cut.now c.requires.splits.2 c.requires.splits.3 c.hear.ensures } in
     let learned : AtLearned setup m taken old c.hear.new.self c.learn.new.self front accepts outs = record { at = heard; own = c.learn.ensures.own; by = c.learn.ensures.learned } in
     let plans = plans_of setup m old taken front accepts outs c.requires.splits.4 in
-    let same : length (own_log c.learn.new.self) ≡ length (own_log old) = ap (λ (p : Standing). length p.log) ((is_after setup m taken old c.hear.new.self c.learn.new.self front accepts outs learned).stands 0 []) in
+    let same : length (own_log c.learn.new.self) ≡ length (own_log old) = ap (λ (p : Standing). length p.log) ((is_after setup m taken old c.hear.new.self c.learn.new.self front accepts outs learned).stands 0 [] []) in
     let long = longer_by setup (map (λ (i : LogItem). i.body) accepts) c.learn.new.self c.put_all.new.self c.put_all.ensures.logged in
     omega (arith, same, long, length-map accepts (λ (i : LogItem). i.body), plans.few_accepts, plans.few_outs, c.requires.room, ap (λ (r : Replica). length (own_log r)) c.drop_met.ensures)
 

@@ -21,7 +21,7 @@ put-requires-clause-next c =
     let items : List LogItem = c.args.items.now in
     let k = c.loop-item.item-index in
     let x : LogItem = c.item-item.result in
-    next_first setup mid mid.needs x (drop (k + 1) items) (drop_step (AreNext setup (known_to mid) mid.me mid.needs (standing_of 0 [] mid)) items k x c.loop-item-test.true c.item-item.is c.loop-item.invariant.next)
+    next_first setup mid mid.needs x (drop (k + 1) items) (drop_step (AreNext setup (known_to mid) mid.me mid.needs (standing_of 0 [] [] mid)) items k x c.loop-item-test.true c.item-item.is c.loop-item.invariant.next)
 
 pub put-requires-clause-entry : goal.put-requires-clause-entry
 put-requires-clause-entry c =
@@ -50,15 +50,15 @@ loop-item-preserved c =
     let x : LogItem = c.item-item.result in
     let bodies : List LogItem → List Body = map (λ (i : LogItem). i.body) in
     let rest : List LogItem = drop (k + 1) items in
-    let next = drop_step (AreNext setup (known_to mid) mid.me mid.needs (standing_of 0 [] mid)) items k x c.loop-item-test.true c.item-item.is c.loop-item.invariant.next in
+    let next = drop_step (AreNext setup (known_to mid) mid.me mid.needs (standing_of 0 [] [] mid)) items k x c.loop-item-test.true c.item-item.is c.loop-item.invariant.next in
     let entered = drop_step (AreEntered setup (known_to mid) mid.needs mid.table) items k x c.loop-item-test.true c.item-item.is c.loop-item.invariant.entered in
-    let then' : AreNext setup (known_to new) new.me mid.needs (standing_of 0 [] new) rest = next_then setup mid.needs x.body mid new rest c.put.ensures.logged next.1 in
+    let then' : AreNext setup (known_to new) new.me mid.needs (standing_of 0 [] [] new) rest = next_then setup mid.needs x.body mid new rest c.put.ensures.logged next.1 in
     record {
       logged = logged_these setup (bodies (take k items) ++ x.body ∷ []) (bodies (take (k + 1) items)) old new (sym (map_take_more (λ (i : LogItem). i.body) items k x c.loop-item-test.true c.item-item.is))
           (logged_both setup (bodies (take k items)) (x.body ∷ []) old mid new c.loop-item.invariant.logged (logged_alone setup x.body mid new c.put.ensures.logged));
       put = put_both old mid new c.loop-item.invariant.put c.put.ensures.put;
       ready = λ more h. c.put.ensures.ready (rest ++ more) (drop_step (λ (l : List LogItem). HasRoomFor mid.store (l ++ more)) items k x c.loop-item-test.true c.item-item.is (c.loop-item.invariant.ready more h));
-      next = subst (λ (n : List Need). AreNext setup (known_to new) new.me n (standing_of 0 [] new) rest) (sym c.put.ensures.put.needs) then';
+      next = subst (λ (n : List Need). AreNext setup (known_to new) new.me n (standing_of 0 [] [] new) rest) (sym c.put.ensures.put.needs) then';
       entered = entered_next setup x.body mid new rest c.put.ensures.logged c.put.ensures.put then' entered.1;
     }
 

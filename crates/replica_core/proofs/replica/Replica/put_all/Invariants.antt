@@ -11,6 +11,6 @@ invariant-loop-item l = record {
   logged : HasLoggedAll l.setup (map (λ item. item.body) (take l.item-index l.items)) l.fn.self l.self;
   put : HasPut l.fn.self l.self;
   ready : (more : List LogItem) → HasRoomFor l.fn.self.store (l.items ++ more) → HasRoomFor l.self.store (drop l.item-index l.items ++ more);
-  next : AreNext l.setup (known_to l.self) l.self.me l.self.needs (standing_of 0 [] l.self) (drop l.item-index l.items);
+  next : AreNext l.setup (known_to l.self) l.self.me l.self.needs (standing_of 0 [] [] l.self) (drop l.item-index l.items);
   entered : AreEntered l.setup (known_to l.self) l.self.needs l.self.table (drop l.item-index l.items);
 }

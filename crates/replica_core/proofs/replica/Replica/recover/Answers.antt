@@ -1,10 +1,9 @@
 use Rattle.std.proofs.Common.{[], ◌+◌, List, length, drop, replicate, sym, ap, ◌∙◌, subst, arith}
 use Rattle.run_model.specs.declared.batch.Batch.{Batch}
-use Rattle.causal_store.specs.Agreeing.{with_all}
 use Rattle.replica_core.specs.Recovered.{AreDecided}
 use Rattle.replica_core.specs.Replicas.{IsReplica}
 use Rattle.replica_core.proofs.Changes.{own_again}
-use Rattle.run_model.specs.Logs.{Logs, log_at}
+use Rattle.run_model.specs.Logs.{Logs, log_at, with_all}
 use Rattle.replica_core.specs.Replicas.{known_to}
 use Rattle.replica_core.proofs.Replayed.{all_more, decided_next, decided_short, logs_short, with_all_long}
 use Rattle.replica_core.proofs.replica.Replica.recover.Goals as goal

@@ -1,9 +1,8 @@
 use Rattle.std.specs.Prelude.{◌≡◌, ℕ, ◌≤◌, ◌*◌, [], drop, length, replicate, take}
 use Rattle.std.specs.List.{flat_map}
-use Rattle.run_model.specs.Logs.{log_at}
+use Rattle.run_model.specs.Logs.{log_at, with_all}
 use Rattle.run_model.specs.Worlds.{no_cut}
 use Rattle.replica_core.specs.Recovered.{AreDecided}
-use Rattle.causal_store.specs.Agreeing.{with_all}
 use Rattle.replica_core.specs.Replicas.{IsReplica, known_to, own_log}
 use Rattle.replica_core.proofs.replica.Replica.recover.Given as goal
 
