@@ -1,0 +1,12 @@
+pub mod Lasts
+pub mod Seen
+pub mod Stepping
+pub mod Rested
+pub mod Upright
+pub mod Spelled
+pub mod Kept
+pub mod Acting
+pub mod Takes
+pub mod Stopped
+pub mod Grown
+pub mod Begun
