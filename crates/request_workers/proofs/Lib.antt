@@ -1,7 +1,4 @@
-pub mod Stepped
-pub mod Running
-pub mod Linked
-pub mod Asked
-pub mod Ordered
-pub mod Begun
 pub mod Finished
+pub mod Handed
+pub mod Scheduled
+pub mod Told

@@ -1,20 +1,49 @@
--- Histories of a legal run.
-use Rattle.std.specs.Prelude.{◌≡◌, List, length, map}
+-- Histories of a legal run, and what the bay of its disks tells of it.
+use Rattle.std.specs.Prelude.{◌≡◌, ◌<◌, ◌≤◌, ℕ, List, [], ◌∷◌, ◌++◌, length, map, filter, ◌==◌, Bool, slice_get, Option, Some}
 use Rattle.spec_model.specs.declared.plan.Setup.{Setup}
+use Rattle.ind_disk.specs.declared.stop.Stop.{Stop}
 use Rattle.run_model.specs.declared.step.Order.{Order}
 use Rattle.run_model.specs.declared.step.StepEntry.{StepEntry}
 use Rattle.run_model.specs.declared.history.History.{History}
-use Rattle.run_model.specs.Worlds.{World, logs_of}
-use Rattle.run_model.specs.Runs.{IsLegal}
+use Rattle.run_model.specs.Worlds.{Standing, Up, World, logs_of}
+use Rattle.run_model.specs.Runs.{IsLegal, entries_at}
 use Rattle.run_model.specs.Sound.{AtEachStep, IsSound}
 use Rattle.run_model.specs.Finals.{lasts_from}
 use Rattle.run_trace.specs.Merging.{AreHistories, IsMerged}
+use Rattle.rights_journal.specs.Image.{IsFinished}
+use Rattle.replica_course.specs.Courses.{failures}
+use Rattle.scenario_text.specs.declared.document.StopLine.{StopLine}
 
--- one history for each replica, whose entries in one order are a legal run of the schedule, which is sound at each step; each ends as its replica does
-pub record AreLegal (setup : Setup) (schedule : List Order) (histories : List History) : Type 0 where
-  pub world : World
+-- which replicas were up at first
+abbrev pub ups_of : List History → List Bool
+ups_of histories = map (λ h. h.first_up) histories
+
+-- one history for each replica, whose entries in one order are a legal run of the schedule from the world in which those that were up are up, which is sound at each step and leaves this world; each ends as its replica does
+pub record AreLegal (setup : Setup) (schedule : List Order) (histories : List History) (world : World) : Type 0 where
   pub whole : length histories ≡ setup.replicas
   pub own : AreHistories histories
-  pub legal : (entries : List StepEntry) → IsMerged histories entries → IsLegal setup schedule entries world
-  pub sound : (entries : List StepEntry) → IsMerged histories entries → AtEachStep setup entries (IsSound setup)
+  pub legal : (entries : List StepEntry) → IsMerged histories entries → IsLegal setup schedule (ups_of histories) entries world
+  pub sound : (entries : List StepEntry) → IsMerged histories entries → AtEachStep setup (ups_of histories) entries (IsSound setup)
   pub lasts : map (λ h. h.last) histories ≡ lasts_from setup (logs_of world) 0 world
+
+-- the stops that these lines name for replica r, in their order
+abbrev pub stops_of : ℕ → List StopLine → List Stop
+stops_of r lines = map (λ line. line.stop) (filter (λ line. line.replica == r) lines)
+
+-- a bay at the start and at the end of a call: whether it is telling, and for each replica the lists of stops with which it gave disks, and at the end the bytes of the disk that came back last
+pub record Bays : Type 0 where
+  pub tells : Bool
+  pub given_before : ℕ → List (List Stop)
+  pub given_after : ℕ → List (List Stop)
+  pub left : ℕ → Option (List ℕ)
+
+-- the disk of a replica that is up at the end is a finished journal of the batches that the replica kept
+abbrev pub HasJournal : ℕ → Option (List ℕ) → Standing → Type 0
+HasJournal replicas left p = p.running ≡ Up → (bytes : List ℕ) × (left ≡ Some bytes) × IsFinished replicas p.kept bytes
+
+-- what a telling bay tells of a run of these replicas: it was asked for one disk for each, with the stops that the lines name for it; no disk failed more often than it has stops, and those that are up at the end have their journals
+pub record BayTells (setup : Setup) (lines : List StopLine) (ups : List Bool) (entries : List StepEntry) (world : World) (bays : Bays) : Type 0 where
+  pub asked : (r : ℕ) → r < setup.replicas → bays.given_after r ≡ bays.given_before r ++ stops_of r lines ∷ []
+  pub nothing_else : (r : ℕ) → setup.replicas ≤ r → bays.given_after r ≡ bays.given_before r
+  pub stops : (r : ℕ) (up : Bool) → slice_get ups r ≡ Some up → failures up (entries_at r entries) ≤ length (stops_of r lines)
+  pub journals : (r : ℕ) (p : Standing) → slice_get world r ≡ Some p → HasJournal setup.replicas (bays.left r) p

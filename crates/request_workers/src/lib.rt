@@ -1,8 +1,6 @@
-//! Runs of a document's work by its replicas.
+//! Runs of documents.
 #![tactic(auto)]
 
-mod links;
-mod node;
 mod simulation;
 
 pub use simulation::simulate;

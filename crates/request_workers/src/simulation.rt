@@ -1,185 +1,114 @@
-//! The run of all replicas on a schedule.
+//! The run of a document on its schedule.
 
-ghost use Rattle.std.specs.Prelude.{◌≡◌, ◌≢◌, ◌<◌, ◌≤◌, ◌+◌, ◌*◌, ◌∷◌, ◌^◌, [], ℕ, IfOk, OnOk, None, Some, length, map, slice_get, take};
-ghost use Rattle.std.specs.List.{AllByRecursion};
-ghost use Rattle.spec_model.specs.Fits.{InstFits};
-ghost use Rattle.run_model.specs.declared.step.Ask.TheVariants as asks;
-ghost use Rattle.run_model.specs.Fitting.{SetupFits};
+ghost use Rattle.std.specs.Prelude.{◌≡◌, ◌<◌, ◌≤◌, [], ℕ, List, IfOk, IsTrue, OnOk, length};
+ghost use Rattle.run_model.specs.declared.step.StepEntry.{StepEntry as EntryOf};
 ghost use Rattle.run_model.specs.Sound.{IsSettled};
-ghost use Rattle.scenario_text.specs.Built.{StaysUp};
+ghost use Rattle.run_model.specs.Worlds.{World as WorldOf};
+ghost use Rattle.run_trace.specs.Merging.{IsMerged};
 ghost use Rattle.scenario_text.specs.WellFormed.{ScheduleFits};
-ghost use Rattle.request_workers.specs.Histories.{AreLegal};
-ghost use Rattle.request_workers.specs.Nodes.{AreDone, AreFirst, AreRunning, CanStepAt, HeedsWholeAt, SendsAt, StepsAt, history_of, sending_of};
+ghost use Rattle.replica_world.specs.Worlds.{AreKept, AreRunning, HasStopsAt};
+ghost use Rattle.request_workers.specs.Handing.{AreBack, AreHanded};
+ghost use Rattle.request_workers.specs.Histories.{AreLegal, BayTells, stops_of, ups_of};
 
-use crate::links::{message_on, no_links, put};
-use crate::node::Node;
-use ind_base::{List, NoMemory};
-use message_laws::messages_are_heeded;
-use run_model::{
-    Ask, History, Message, Order, finals_agree, local_step_is_one, runs_are_sound, runs_in_order,
-};
-use spec_model::{Inst, Setup};
+use batch_storage::{Journaled, Storage};
+use ind_base::{List as Items, NoMemory};
+use ind_disk::{Bay, Stop};
+use replica_world::{Ended, World};
+use rights_journal::Journal;
+use run_model::{History, Order, finals_agree, runs_are_sound, runs_in_order};
+use scenario_text::StopLine;
+use spec_model::Setup;
 use std::alloc::Global;
 
-/// All replicas before their first step.
-fn begin(alloc: Global, setup: &Setup) -> Result<Vec<Node>, NoMemory>
-    requires setup { SetupFits setup.now }
-    requires few { setup.now.replicas ≤ 8 }
-    ensures { IfOk result (λ nodes. AreFirst setup.now setup.now.replicas nodes.items) }
+/// The stops that the lines name for a replica, in their order.
+fn stops_named(alloc: Global, lines: &[StopLine], replica: u32) -> Result<Items<Stop>, NoMemory>
+    ensures { IfOk result (λ stops. stops ≡ stops_of replica lines.now) }
 {
-    let mut nodes = Vec::new(alloc);
-    for me in 0..setup.replicas {
-        nodes.push(Node::begin(alloc, setup, me)?)?;
-    }
-    Ok(nodes)
-}
-
-/// A replica answers a request.
-fn request_at(
-    alloc: Global,
-    setup: &Setup,
-    nodes: &mut Vec<Node>,
-    me: u32,
-    inst: &Inst,
-) -> Result<(), NoMemory>
-    requires place { me < length nodes.old.items }
-    requires can { CanStepAt setup.now me nodes.old.items }
-    requires fits { InstFits setup.now.spec inst.now }
-    ensures { OnOk result (StepsAt setup.now me (asks.Do inst.now) None [] nodes.old.items nodes.new.items) }
-{
-    nodes[me as usize].request(alloc, setup, inst)
-}
-
-/// A replica sends a message.
-fn send_at(
-    alloc: Global,
-    setup: &Setup,
-    nodes: &mut Vec<Node>,
-    me: u32,
-    to: u32,
-    number: u32,
-) -> Result<Message, NoMemory>
-    requires place { me < length nodes.old.items }
-    requires can { CanStepAt setup.now me nodes.old.items }
-    requires other { to ≢ me }
-    requires peer { to < setup.now.replicas }
-    ensures { IfOk result (λ m. SendsAt setup.now me to number m nodes.old.items nodes.new.items) }
-{
-    nodes[me as usize].send(alloc, setup, to, number)
-}
-
-/// A replica takes a message.
-fn take_at(
-    alloc: Global,
-    setup: &Setup,
-    nodes: &mut Vec<Node>,
-    me: u32,
-    number: u32,
-    message: &Message,
-) -> Result<(), NoMemory>
-    requires place { me < length nodes.old.items }
-    requires can { CanStepAt setup.now me nodes.old.items }
-    requires whole { HeedsWholeAt setup.now me message.now nodes.old.items }
-    requires stamp { message.now.stamp < 2 ^ 63 }
-    ensures { OnOk result (StepsAt setup.now me (asks.Take message.now.from (Some number)) (Some (sending_of message.now)) [] nodes.old.items nodes.new.items) }
-{
-    nodes[me as usize].take(alloc, setup, number, message)
-}
-
-/// The number of a message, which a schedule always gives.
-fn given(number: Option<u32>) -> u32
-    requires { (n : ℕ) × (number ≡ Some n) }
-    ensures { number ≡ Some result }
-{
-    match number {
-        Some(number) => number,
-        None => unreachable!(),
-    }
-}
-
-/// Takes the line of the schedule at this place.
-fn take_order(
-    alloc: Global,
-    setup: &Setup,
-    schedule: &[Order],
-    at: usize,
-    nodes: &mut Vec<Node>,
-    links: &mut Vec<List<Message>>,
-) -> Result<(), NoMemory>
-    requires settled { IsSettled setup.now }
-    requires few { setup.now.replicas ≤ 8 }
-    requires schedule { ScheduleFits setup.now.spec setup.now.replicas schedule.now }
-    requires up { AllByRecursion (λ order. StaysUp order.ask) schedule.now }
-    requires place { at < length schedule.now }
-    requires running { AreRunning setup.now (take at schedule.now) nodes.old.items links.old.items }
-    ensures { OnOk result (AreRunning setup.now (take (at + 1) schedule.now) nodes.new.items links.new.items) }
-{
-    local_step_is_one();
-    messages_are_heeded();
-    let order = schedule[at];
-    let me = order.replica;
-    match order.ask {
-        Ask::Do(inst) => request_at(alloc, setup, nodes, me, &inst),
-        Ask::Send { to, number } => {
-            let number = given(number);
-            let message = send_at(alloc, setup, nodes, me, to, number)?;
-            put(links, me, to, message)
+    let mut stops = Items::new(alloc);
+    for line in lines {
+        if line.replica == replica {
+            stops.push(line.stop)?;
         }
-        Ask::Take { from, number } => {
-            let number = given(number);
-            let message = message_on(links, from, me, number);
-            take_at(alloc, setup, nodes, me, number, message)
-        }
-        _ => unreachable!(),
     }
+    Ok(stops)
+}
+
+/// A disk of the bay for each replica, with the stops that the lines name for it.
+fn disks_of<B: Bay>(
+    alloc: Global,
+    replicas: u32,
+    lines: &[StopLine],
+    bay: &mut B,
+) -> Result<Vec<B::D>, NoMemory>
+    ensures { IfOk result (λ disks. AreHanded B.D.standing B.D.may_leave B.tells B.has_given B.given lines.now replicas bay.old bay.new disks.items) }
+{
+    let mut disks = Vec::new(alloc);
+    for replica in 0..replicas {
+        let stops = stops_named(alloc, lines, replica)?;
+        disks.push(bay.disk(alloc, replica, stops.as_slice())?)?;
+    }
+    Ok(disks)
 }
 
 /// All lines of a schedule, one after the other.
-fn run(alloc: Global, setup: &Setup, schedule: &[Order]) -> Result<Vec<Node>, NoMemory>
-    requires settled { IsSettled setup.now }
-    requires few { setup.now.replicas ≤ 8 }
-    requires schedule { ScheduleFits setup.now.spec setup.now.replicas schedule.now }
-    requires up { AllByRecursion (λ order. StaysUp order.ask) schedule.now }
-    ensures { IfOk result (λ nodes. AreDone setup.now schedule.now nodes.items) }
-{
-    let mut nodes = begin(alloc, setup)?;
-    let mut links = no_links(alloc)?;
-    for at in 0..schedule.len() {
-        take_order(alloc, setup, schedule, at, &mut nodes, &mut links)?;
-    }
-    Ok(nodes)
-}
-
-/// What the nodes show at the end.
-fn histories(
+fn run<S: Storage + Drop>(
     alloc: Global,
     setup: &Setup,
     schedule: &[Order],
-    nodes: Vec<Node>,
-) -> Result<List<History>, NoMemory>
-    requires short { length schedule.now ≤ 100000 }
-    requires done { AreDone setup.now schedule.now nodes.items }
-    ensures { IfOk result (λ histories. histories ≡ map (history_of setup.now) nodes.items) }
-{
-    let mut histories = List::new(alloc);
-    for node in nodes {
-        let _so_far = histories.as_slice();
-        histories.push(node.finish(alloc, setup)?)?;
-    }
-    Ok(histories)
-}
-
-/// Runs the replicas on the schedule: what each did, and how it stands at the end.
-pub fn simulate(alloc: Global, setup: &Setup, schedule: &[Order]) -> Result<List<History>, NoMemory>
+    world: &mut World<S>,
+) -> Result<(), NoMemory>
     requires settled { IsSettled setup.now }
     requires few { setup.now.replicas ≤ 8 }
     requires schedule { ScheduleFits setup.now.spec setup.now.replicas schedule.now }
-    requires up { AllByRecursion (λ order. StaysUp order.ask) schedule.now }
-    ensures { IfOk result (λ histories. AreLegal setup.now schedule.now histories) }
+    requires running { AreRunning setup.now [] world.old.courses.items world.old.links.items }
+    requires kept { AreKept S.keeps setup.now world.old.courses.items world.old.storages.items }
+    ensures running { OnOk result (AreRunning setup.now schedule.now world.new.courses.items world.new.links.items) }
+    ensures kept { OnOk result (AreKept S.keeps setup.now world.new.courses.items world.new.storages.items) }
+    ensures stops { OnOk result ((me given : ℕ) → HasStopsAt S.shows world.old.courses.items world.old.storages.items me given → HasStopsAt S.shows world.new.courses.items world.new.storages.items me given) }
+{
+    for order in schedule {
+        world.step(alloc, setup, order.replica, order.ask)?;
+    }
+    Ok(())
+}
+
+/// Gives the disks back, in order of the replicas.
+fn give_back<B: Bay>(bay: &mut B, disks: Vec<B::D>)
+    requires few { length disks.items ≤ 8 }
+    requires given { (r : ℕ) → r < length disks.items → B.has_given bay.old r }
+    ensures { AreBack B.D.standing B.tells B.has_given B.given B.left (length disks.items) bay.old bay.new disks.items }
+{
+    let mut replica = 0u32;
+    for disk in disks {
+        bay.back(replica, disk);
+        replica += 1;
+    }
+}
+
+/// Runs the replicas on the schedule, each over a disk of the bay that stops where the lines name it:
+/// what each did, and how it stands at the end. Then the disks go back to the bay.
+pub fn simulate<B: Bay>(
+    alloc: Global,
+    setup: &Setup,
+    lines: &[StopLine],
+    schedule: &[Order],
+    bay: &mut B,
+) -> Result<Items<History>, NoMemory>
+    requires settled { IsSettled setup.now }
+    requires few { setup.now.replicas ≤ 8 }
+    requires schedule { ScheduleFits setup.now.spec setup.now.replicas schedule.now }
+    ensures legal { IfOk result (λ histories. (world : WorldOf) × AreLegal setup.now schedule.now histories world
+        × (IsTrue (B.tells bay.old) → (entries : List EntryOf) → IsMerged histories entries
+        → BayTells setup.now lines.now (ups_of histories) entries world (record { tells = B.tells bay.old; given_before = B.given bay.old; given_after = B.given bay.new; left = B.left bay.new }))) }
+    ensures tells { IfOk result (λ histories. B.tells bay.new ≡ B.tells bay.old) }
 {
     runs_are_sound();
     runs_in_order();
     finals_agree();
-    let nodes = run(alloc, setup, schedule)?;
-    histories(alloc, setup, schedule, nodes)
+    let disks = disks_of(alloc, setup.replicas, lines, bay)?;
+    let mut world = World::<Journaled<Journal<B::D>>>::begin(alloc, setup, disks)?;
+    run(alloc, setup, schedule, &mut world)?;
+    let Ended { histories, disks } = world.finish(alloc, setup)?;
+    give_back(bay, disks);
+    Ok(histories)
 }

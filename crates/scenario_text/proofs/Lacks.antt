@@ -17,18 +17,15 @@ use Rattle.scenario_lines.specs.declared.line.RunLine.{RunLine}
 use Rattle.scenario_lines.specs.declared.line.RunLine.TheVariants as run_lines
 use Rattle.scenario_lines.proofs.Shapes as run_shapes
 use Rattle.scenario_lines.proofs.Back as run_back
-use Rattle.run_model.specs.declared.step.Ask.{Ask}
 use Rattle.run_model.specs.declared.step.Ask.TheVariants as asks
-use Rattle.run_model.specs.declared.step.Order.{Order}
-use Rattle.spec_language.proofs.Limits.{all_one}
 use Rattle.scenario_text.specs.declared.document.Work.TheVariants as works
 use Rattle.scenario_text.specs.declared.document.Document.{Document}
 use Rattle.scenario_text.specs.declared.draft.Draft.{Draft}
 use Rattle.scenario_text.specs.declared.group.Group.{Group}
-use Rattle.scenario_text.specs.declared.group.Group.TheVariants.{Unbuilt, Schedule, Clients}
-use Rattle.scenario_text.specs.Built.{StaysUp, AllStayUp, HasNoOrder, IsLacking}
+use Rattle.scenario_text.specs.declared.group.Group.TheVariants.{Schedule, Clients}
+use Rattle.scenario_text.specs.Lacking.{HasNoOrder, IsLacking}
 use Rattle.scenario_text.specs.Draft as drafts
-use Rattle.scenario_text.specs.Groups.{unbuilt_words, schedule_words, client_words, words_of, HasTokens, holds, first_from, first_line}
+use Rattle.scenario_text.specs.Groups.{schedule_words, client_words, words_of, HasTokens, holds, first_from, first_line}
 use Rattle.scenario_text.specs.Reading.{accept, draft_of, document_of, document_of_draft}
 use Rattle.scenario_text.proofs.LineByLine.{KeepsWith, line_keeps_with, accepted_tokens}
 use Rattle.scenario_text.proofs.Taken as takens
@@ -54,41 +51,6 @@ none_hold words number (line ∷ lines) e =
 tokens_lack : (words : List (List ℕ)) (line : List ℕ) → HoldsNone words line → (ts : List Token) → line_tokens line ≡ Ok ts → Lacks words ts
 unfolding holds
 tokens_lack words line none ts read = rw read at none
-
--- ---- nothing of the first group
-
-abbrev OrderStaysUp : Order → Type 0
-OrderStaysUp o = StaysUp o.ask
-
-pub record Built (d : Draft) : Type 0 where
-  pub stops : d.stops ≡ []
-  pub orders : AllByRecursion OrderStaysUp d.orders
-
-order_built : (d e : Draft) (replica : ℕ) (ask : Ask) → StaysUp ask → Built d → takens.OrderTaken d e replica ask → Built e
-order_built d e replica ask up h t = subst Built t.whole (record { stops = h.stops; orders = all_one OrderStaysUp d.orders _ h.orders up })
-
-run_built : (d e : Draft) (line : RunLine) → Lacks unbuilt_words (run_shapes.tokens_of_line line) → Built d → drafts.run_step d line ≡ Ok e → Built e
-unfolding drafts.run_step
-run_built d e (run_lines.Replicas n) lacks h is = subst Built (takens.replicas_taken d e n is).whole (record { stops = h.stops; orders = h.orders })
-run_built d e (run_lines.Stop replica call keep fill) lacks h is = absurd cc
-run_built d e (run_lines.Do replica op xs) lacks h is = order_built d e replica _ tt h (takens.do_taken d e replica op xs is).order
-run_built d e (run_lines.Send replica peer) lacks h is =
-    let t = takens.send_taken d e replica peer is in
-    subst Built t.whole (record { stops = h.stops; orders = all_one OrderStaysUp d.orders _ h.orders tt })
-run_built d e (run_lines.Take replica peer number) lacks h is = order_built d e replica _ tt h (takens.take_taken d e replica peer number is).order
-run_built d e (run_lines.Crash replica) lacks h is = absurd cc
-run_built d e (run_lines.Recover replica) lacks h is = absurd cc
-run_built d e (run_lines.Turns turns) lacks h is = subst Built (takens.turns_taken d e turns is).whole (record { stops = h.stops; orders = h.orders })
-run_built d e (run_lines.Client client home) lacks h is = subst Built (takens.client_taken d e client home is).whole (record { stops = h.stops; orders = h.orders })
-run_built d e (run_lines.AskDo client op xs) lacks h is = subst Built (takens.request_taken d e client op xs is).ask.whole (record { stops = h.stops; orders = h.orders })
-run_built d e (run_lines.AskCrash client) lacks h is = absurd cc
-run_built d e (run_lines.AskRecover client) lacks h is = absurd cc
-
-built_kept : KeepsWith (Lacks unbuilt_words) Built
-built_kept = record {
-  spec = λ d e w ts line lacks from h is. subst Built (takens.spec_taken d e line is).whole (record { stops = h.stops; orders = h.orders });
-  run = λ d e w ts line lacks from h is. run_built d e line (subst (Lacks unbuilt_words) (run_back.line_back w ts line from) lacks) h is;
-}
 
 -- ---- no line of clients, no line of a schedule
 
@@ -151,18 +113,11 @@ none_kept : (words : List (List ℕ)) (P : Draft → Type 0) → KeepsWith (Lack
 none_kept words P keeps fresh lines d none is =
     read_kept_with (HoldsNone words) P accept drafts.ends (λ a b line lacks h e. line_keeps_with (Lacks words) P keeps a b line (tokens_lack words line lacks) h e) (λ a b h e. subst P (ended_same a b (eqb a.replicas 0) _ e) h) lines 1 drafts.fresh d none fresh is
 
-work_up : (d : Draft) (late : Bool) → AllByRecursion OrderStaysUp d.orders → AllStayUp (cond late (works.Clients d.turns d.homes d.asks) (works.Schedule d.orders))
-work_up d true h = tt
-work_up d false h = h
-
 work_empty : (d : Draft) (late : Bool) → d.orders ≡ [] → HasNoOrder (cond late (works.Clients d.turns d.homes d.asks) (works.Schedule d.orders))
 work_empty d true h = tt
 work_empty d false h = h
 
 draft_lacks : (group : Group) (lines : List (List ℕ)) (d : Draft) → AllByRecursion (HoldsNone (words_of group)) lines → draft_of lines ≡ Ok d → IsLacking group (drafts.document_from d)
-draft_lacks Unbuilt lines d none is =
-    let h = none_kept unbuilt_words Built built_kept (record { stops = refl; orders = tt }) lines d none is in
-    record { stops = h.stops; work = work_up d (nat_le 10 d.rank) h.orders }
 draft_lacks Schedule lines d none is = work_empty d (nat_le 10 d.rank) (none_kept schedule_words NoOrders no_orders_kept refl lines d none is)
 draft_lacks Clients lines d none is =
     let h = none_kept client_words NoClients no_clients_kept (omega arith) lines d none is in
@@ -193,7 +148,6 @@ all_tokens bytes d is = lines_tokens (lines_of bytes) (draft_of (lines_of bytes)
 -- ---- words among the runs of a line
 
 names_begin : (group : Group) → AllByRecursion IsNoNumber (words_of group)
-names_begin Unbuilt = (refl, (refl, (refl, tt)))
 names_begin Schedule = (refl, (refl, (refl, (refl, (refl, tt)))))
 names_begin Clients = (refl, (refl, (refl, tt)))
 

@@ -6,10 +6,7 @@ use Rattle.line_text.specs.declared.token.Token.{Token}
 use Rattle.line_text.specs.Texts.{line_tokens}
 use Rattle.line_text.specs.Words.{is_among}
 use Rattle.scenario_text.specs.declared.group.Group.{Group}
-use Rattle.scenario_text.specs.declared.group.Group.TheVariants.{Unbuilt, Schedule, Clients}
-
-abbrev pub unbuilt_words : List (List ℕ)
-unbuilt_words = codes "stop" ∷ codes "crash" ∷ codes "recover" ∷ []
+use Rattle.scenario_text.specs.declared.group.Group.TheVariants.{Schedule, Clients}
 
 abbrev pub schedule_words : List (List ℕ)
 schedule_words = codes "do" ∷ codes "send" ∷ codes "take" ∷ codes "crash" ∷ codes "recover" ∷ []
@@ -19,7 +16,6 @@ client_words = codes "turns" ∷ codes "client" ∷ codes "ask" ∷ []
 
 -- the words of a group
 abbrev pub words_of : Group → List (List ℕ)
-words_of Unbuilt = unbuilt_words
 words_of Schedule = schedule_words
 words_of Clients = client_words
 

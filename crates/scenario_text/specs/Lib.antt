@@ -4,7 +4,7 @@ pub mod Numbered
 pub mod Bounds
 pub mod Reading
 pub mod Groups
-pub mod Built
+pub mod Lacking
 pub mod Saying
 pub mod Again
 pub mod WellFormed

@@ -4,7 +4,7 @@ ghost use Rattle.std.specs.Prelude.{◌≡◌, ◌≤◌, None, Ok, length};
 ghost use Rattle.line_text.specs.Lines.{lines_of};
 ghost use Rattle.line_text.specs.Words.{is_one_of};
 ghost use Rattle.scenario_text.specs.declared.document.Document.{Document};
-ghost use Rattle.scenario_text.specs.Built.{IsLacking};
+ghost use Rattle.scenario_text.specs.Lacking.{IsLacking};
 ghost use Rattle.scenario_text.specs.Groups as groups;
 ghost use Rattle.scenario_text.specs.Reading.{IsDocument, document_of};
 
@@ -13,18 +13,10 @@ use line_text::{before_comment, next_run, same, split_line};
 /// Words that lines of a document may hold.
 #[derive(Clone, Copy)]
 pub enum Group {
-    /// What no run understands yet.
-    Unbuilt,
     /// The line words of a schedule.
     Schedule,
     /// The line words of clients.
     Clients,
-}
-
-fn is_unbuilt(word: &[u8]) -> bool
-    ensures { result ≡ is_one_of groups.unbuilt_words word.now }
-{
-    same(word, b"stop") || same(word, b"crash") || same(word, b"recover")
 }
 
 fn is_schedule(word: &[u8]) -> bool
@@ -48,7 +40,6 @@ fn is_of(group: Group, word: &[u8]) -> bool
     ensures { result ≡ is_one_of (groups.words_of group) word.now }
 {
     match group {
-        Group::Unbuilt => is_unbuilt(word),
         Group::Schedule => is_schedule(word),
         Group::Clients => is_clients(word),
     }

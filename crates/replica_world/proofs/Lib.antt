@@ -1,0 +1,9 @@
+pub mod Entries
+pub mod Asked
+pub mod Linked
+pub mod Hand
+pub mod Kept
+pub mod Running
+pub mod Begun
+pub mod Shown
+pub mod Answered

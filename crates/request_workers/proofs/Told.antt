@@ -1,0 +1,73 @@
+-- What a telling bay tells of a run.
+use Rattle.std.proofs.Common.{◌≡◌, ℕ, zero, suc, ◌+◌, ◌<◌, ◌≤◌, List, [], ◌∷◌, ◌++◌, length, refl, sym, ap, subst, ◌∙◌, arith}
+use Rattle.std.specs.Prelude.{slice_get, Some, Option, Bool, IsTrue, map}
+use Rattle.ind_disk.specs.Disk.{Standing as DiskStanding}
+use Rattle.ind_disk.specs.declared.stop.Stop.{Stop}
+use Rattle.spec_model.specs.declared.plan.Setup.{Setup}
+use Rattle.run_model.specs.declared.history.History.{History}
+use Rattle.run_model.specs.declared.step.Order.{Order}
+use Rattle.run_model.specs.declared.step.StepEntry.{StepEntry}
+use Rattle.run_model.specs.Locals.{Local}
+use Rattle.run_model.specs.Runs.{entries_at}
+use Rattle.run_model.specs.Worlds.{Standing, Up, World}
+use Rattle.run_trace.specs.Merging.{IsMerged}
+use Rattle.rights_journal.specs.Image.{IsFinished}
+use Rattle.batch_storage.specs.Shown.{Shown, shown_of}
+use Rattle.scenario_text.specs.declared.document.StopLine.{StopLine}
+use Rattle.replica_course.specs.declared.course.Course.{Course}
+use Rattle.replica_course.specs.declared.heard.Heard.{Heard}
+use Rattle.replica_course.specs.Courses.{failures, history_of, local_of, running_of}
+use Rattle.replica_world.specs.Links.{sendings_at}
+use Rattle.replica_world.specs.Worlds.{AreRunning, HasStops, HasStopsAt}
+use Rattle.request_workers.specs.Histories.{BayTells, stops_of, ups_of}
+use Rattle.request_workers.specs.Handing.{AreBack, AreHanded}
+use Rattle.request_workers.proofs.Finished.{mapped, some_at, some_same}
+
+place_within : {X : Type 0} (xs : List X) (k : ℕ) (x : X) → slice_get xs k ≡ Some x → k < length xs
+place_within [] k x is = absurd cc
+place_within (y ∷ xs) zero x is = omega arith
+place_within (y ∷ xs) (suc k) x is = omega (arith, place_within xs k x is)
+
+-- the disks at the end, with the storages that they were of: those of replicas that are up are finished journals
+pub record AreDisksOf {D S : Type 0} (standing : D → DiskStanding) (shows : S → Shown) (setup : Setup) (courses : List Course) (storages : List S) (disks : List D) : Type 0 where
+  pub whole : length disks ≡ setup.replicas
+  pub storages_whole : length storages ≡ length courses
+  pub shown : (me : ℕ) (s : S) (d : D) → slice_get storages me ≡ Some s → slice_get disks me ≡ Some d → shows s ≡ shown_of (standing d)
+  pub journals : (me : ℕ) (c : Course) (d : D) → slice_get courses me ≡ Some c → slice_get disks me ≡ Some d → running_of c ≡ Up → IsTrue (standing d).tells → IsFinished setup.replicas c.kept (standing d).bytes
+
+pub bay_tells : {B D S : Type 0} (standing : D → DiskStanding) (may_leave : D → List ℕ → Type 0) (tells : B → Bool) (has_given : B → ℕ → Type 0) (given : B → ℕ → List (List Stop)) (left : B → ℕ → Option (List ℕ)) (shows : S → Shown)
+    (setup : Setup) (lines : List StopLine) (schedule : List Order) (old middle new : B) (disks ended : List D) (courses : List Course) (storages : List S) (links : List (List Heard)) (h : AreRunning setup schedule courses links)
+    → AreHanded standing may_leave tells has_given given lines setup.replicas old middle disks
+    → ((me : ℕ) → HasStopsAt shows courses storages me (length (stops_of me lines)))
+    → AreDisksOf standing shows setup courses storages ended
+    → AreBack standing tells has_given given left (length ended) middle new ended
+    → IsTrue (tells old) → (sorted : List StepEntry) → IsMerged (map (history_of setup) courses) sorted
+    → BayTells setup lines (ups_of (map (history_of setup) courses)) sorted h.world (record { tells = tells old; given_before = given old; given_after = given new; left = left new })
+bay_tells {B} {D} {S} standing may_leave tells has_given given left shows setup lines schedule old middle new disks ended courses storages links h handed stops disks_of back telling sorted merged =
+    let still : IsTrue (tells middle) = subst IsTrue (sym handed.same) telling in
+    let storage_at : (me : ℕ) → me < setup.replicas → (s : S) × (slice_get storages me ≡ Some s) = λ me lt. some_at storages me (omega (arith, lt, disks_of.storages_whole, h.whole)) in
+    let has_stops : (me : ℕ) (c : Course) (lt : me < setup.replicas) → slice_get courses me ≡ Some c → HasStops (length (stops_of me lines)) (shows (storage_at me lt).0) c = λ me c lt is. stops me c (storage_at me lt).0 is (storage_at me lt).1 in
+    record {
+      asked = λ r lt. back.asked still r ∙ handed.asked telling r lt;
+      nothing_else = λ r le. back.asked still r ∙ handed.nothing_else telling r le;
+      stops = λ r up is.
+          let one = mapped (λ (k : History). k.first_up) (map (history_of setup) courses) r up is in
+          let c = mapped (history_of setup) courses r one.0 one.1 in
+          let lt : r < setup.replicas = omega (arith, place_within courses r c.0 c.1, h.whole) in
+          let here : failures c.0.first_up c.0.entries ≤ length (stops_of r lines) = omega (arith, (has_stops r c.0 lt c.1).few) in
+          subst (λ (es : List StepEntry). failures up es ≤ length (stops_of r lines)) (sym (merged.each r one.0 one.1 ∙ ap (λ (k : History). k.entries) c.2))
+          (subst (λ (b : Bool). failures b c.0.entries ≤ length (stops_of r lines)) (sym (one.2 ∙ ap (λ (k : History). k.first_up) c.2)) here);
+      journals = λ r p at up.
+          let lt : r < setup.replicas = omega (arith, place_within h.world r p at, h.world_whole) in
+          let c = some_at courses r (omega (arith, lt, h.whole)) in
+          let d = some_at ended r (omega (arith, lt, disks_of.whole)) in
+          let l : Local = local_of setup.replicas (sendings_at h.world r) c.0 in
+          let stands : l.standing ≡ p = some_same l.standing p (sym (h.each r c.0 c.1).stands.is ∙ at) in
+          let shown : shows (storage_at r lt).0 ≡ shown_of (standing d.0) = disks_of.shown r (storage_at r lt).0 d.0 (storage_at r lt).1 d.1 in
+          let tells_it : IsTrue (standing d.0).tells = subst (λ (s : Shown). IsTrue s.tells) shown (has_stops r c.0 lt c.1).tells in
+          let finished : IsFinished setup.replicas c.0.kept (standing d.0).bytes = disks_of.journals r c.0 d.0 c.1 d.1 (ap (λ (q : Standing). q.running) stands ∙ up) tells_it in (
+            (standing d.0).bytes,
+            back.bytes still r d.0 (omega (arith, lt, disks_of.whole)) d.1 tells_it,
+            subst (λ (q : Standing). IsFinished setup.replicas q.kept (standing d.0).bytes) stands finished,
+          );
+    }

@@ -1,5 +1,0 @@
-use Rattle.std.proofs.Common.{◌≡◌, [], replicate}
-use Rattle.request_workers.proofs.links.no_links.Given as goal
-
-abbrev pub invariant-loop-place : goal.invariant-loop-place
-invariant-loop-place l = l.links.items ≡ replicate l._place []
