@@ -1,6 +1,7 @@
 //! The program `indigo`.
 #![tactic(auto)]
 
+use ind_disk::MemBay;
 use ind_io::{StdSink, StdSource};
 use indigo_program::tool;
 use std::env;
@@ -27,5 +28,8 @@ fn main(rt: HostRuntime) -> ExitCode {
     }
     let mut source = StdSource::new(rt.reader());
     let mut sink = StdSink::new(io::writer(&rt));
-    ExitCode::from(tool(alloc, words.as_slice(), &mut source, &mut sink))
+    let Ok(mut bay) = MemBay::new(alloc) else {
+        return ExitCode::from(NO_MEMORY);
+    };
+    ExitCode::from(tool(alloc, words.as_slice(), &mut source, &mut sink, &mut bay))
 }

@@ -10,10 +10,10 @@ use Rattle.run_model.specs.declared.step.Order.{Order}
 use Rattle.scenario_text.specs.declared.document.Document.{Document}
 use Rattle.scenario_text.specs.declared.document.Work.{Work}
 use Rattle.scenario_text.specs.declared.document.Work.TheVariants as works
-use Rattle.scenario_text.specs.Groups.{unbuilt_words, first_line}
 use Rattle.scenario_text.specs.Reading.{document_of}
 use Rattle.indigo_program.specs.declared.command.Command.{Command}
 use Rattle.indigo_program.specs.declared.command.Command.TheVariants as commands
+use Rattle.request_workers.specs.Histories.{Bays}
 use Rattle.indigo_program.specs.Headline.{Stream, Failed, WasRead, IsNamed, IsReply, IsAnswerTo, IsAnswered, IsComplete, IsOwed, IsOwedBy, IsRunAnswer, Makes, Succeeds, input_limit}
 use Rattle.indigo_program.specs.Inputs.{IsInputOf, IsOfClients, Refuses, document_before}
 use Rattle.std.specs.List.{find}
@@ -47,11 +47,11 @@ keeps_all None = tt
 keeps_all (Some xs) = refl
 
 -- a reply that is written whole, or cut off
-pub finished : (words : List (List ℕ)) (source sink : Stream) (status result : ℕ) (text put : List ℕ) → IsReply words source status text → put ≡ text
-    → Finishes sink.before sink.after sink.faults_before sink.faults_after put status result → IsAnswered words source sink result
-finished words source sink status result text put reply is (inl w) =
-    inl (record { text = text; reply = subst (λ n. IsReply words source n text) (sym w.0) reply; out = subst (Appends sink.before sink.after) is w.1 })
-finished words source sink status result text put reply is (inr w) =
+pub finished : (words : List (List ℕ)) (source sink : Stream) (bays : Bays) (status result : ℕ) (text put : List ℕ) → IsReply words source bays status text → put ≡ text
+    → Finishes sink.before sink.after sink.faults_before sink.faults_after put status result → IsAnswered words source sink bays result
+finished words source sink bays status result text put reply is (inl w) =
+    inl (record { text = text; reply = subst (λ n. IsReply words source bays n text) (sym w.0) reply; out = subst (Appends sink.before sink.after) is w.1 })
+finished words source sink bays status result text put reply is (inr w) =
     let cut = w.2 in
     inr (inl (
       w.0,
@@ -68,10 +68,10 @@ finished words source sink status result text put reply is (inr w) =
     ))
 
 -- the reply to an input that was read
-pub reply_read : (words : List (List ℕ)) (command : Command) (source : Stream) (bytes given text : List ℕ) (status : ℕ) → IsNamed words command → Consumes source.before source.after bytes → IsAtEnd source.after → length bytes ≤ input_limit → given ≡ bytes
-    → IsAnswerTo command given status text → IsReply words source status text
-reply_read words command source bytes given text status named all end short is answer =
-    inr (command, named, inr (inr (record { bytes = bytes; all = all; end = end; short = short; holds = subst (λ (b : List ℕ). IsAnswerTo command b status text) is answer })))
+pub reply_read : (words : List (List ℕ)) (command : Command) (source : Stream) (bays : Bays) (bytes given text : List ℕ) (status : ℕ) → IsNamed words command → Consumes source.before source.after bytes → IsAtEnd source.after → length bytes ≤ input_limit → given ≡ bytes
+    → IsAnswerTo command given status text bays → IsReply words source bays status text
+reply_read words command source bays bytes given text status named all end short is answer =
+    inr (command, named, inr (inr (record { bytes = bytes; all = all; end = end; short = short; holds = subst (λ (b : List ℕ). IsAnswerTo command b status text bays) is answer })))
 
 -- the first letter
 abbrev letter : List (List ℕ) → ℕ
@@ -135,15 +135,11 @@ no_clients : (work : Work) (orders : List Order) → work ≡ works.Schedule ord
 no_clients (works.Schedule given) orders is clients = clients
 no_clients (works.Clients turns homes asks) orders is clients = absurd cc
 
-both_first : (first : Option ℕ) (line : ℕ) → first ≡ Some line → first ≡ None → ⊥
-both_first first line some none = absurd (let both = sym some ∙ none in cc)
-
 -- a command isn't for an input of which it refuses a line
 input_whole : (command : Command) (bytes : List ℕ) (line : ℕ) (cause : Cause) → Refuses command bytes line cause → IsInputOf command bytes → ⊥
 input_whole commands.Simulate bytes line cause (inl bad) (d, orders, run) = both_read (document_of bytes) d (line, cause) run.read bad
-input_whole commands.Simulate bytes line cause (inr (inl out)) (d, orders, run) =
+input_whole commands.Simulate bytes line cause (inr out) (d, orders, run) =
     no_clients out.document.work orders (ap (λ (x : Document). x.work) (one_document (document_of bytes) out.document d out.read run.read) ∙ run.schedule) out.clients
-input_whole commands.Simulate bytes line cause (inr (inr word)) (d, orders, run) = both_first (first_line unbuilt_words (lines_of bytes)) line word.first run.built
 input_whole commands.Analyse bytes line cause bad (d, read) = both_read (document_of bytes) d (line, cause) read bad
 input_whole commands.Check bytes line cause bad (d, read) = both_read (document_before bytes) d (line, cause) read bad
 input_whole commands.Print bytes line cause bad (d, read) = both_read (document_of bytes) d (line, cause) read bad
@@ -155,11 +151,11 @@ success_input commands.Analyse bytes (d, read, plan) = (d, read)
 success_input commands.Check bytes (d, read, checked) = (d, read)
 success_input commands.Print bytes h = h
 
-makes_input : (command : Command) (bytes text : List ℕ) (status : ℕ) → Makes command bytes status text → IsInputOf command bytes
-makes_input commands.Simulate bytes text status made = (made.document, made.orders, made.taken)
-makes_input commands.Analyse bytes text status made = (made.document, made.read)
-makes_input commands.Check bytes text status made = (made.document, made.read)
-makes_input commands.Print bytes text status (is, printed) = (printed.document, printed.read)
+makes_input : (command : Command) (bytes text : List ℕ) (status : ℕ) (bays : Bays) → Makes command bytes status text bays → IsInputOf command bytes
+makes_input commands.Simulate bytes text status bays made = (made.document, made.orders, made.taken)
+makes_input commands.Analyse bytes text status bays made = (made.document, made.read)
+makes_input commands.Check bytes text status bays made = (made.document, made.read)
+makes_input commands.Print bytes text status bays (is, printed) = (printed.document, printed.read)
 
 -- ---- which status is owed
 
@@ -188,9 +184,9 @@ analysis_zero : (spec : Spec) (status : ℕ) (text : List ℕ) → analyses.IsAn
 analysis_zero spec status text (inl (is, planned)) = is_zero (HasPlan spec) status planned.certified.has is
 analysis_zero spec status text (inr none) = planless_zero spec status text none
 
-run_zero : (spec : Spec) (replicas : ℕ) (orders : List Order) (status : ℕ) (text : List ℕ) → IsRunAnswer spec replicas orders status text → IsZeroWhere (HasPlan spec) status
-run_zero spec replicas orders status text (inl (is, trace)) = is_zero (HasPlan spec) status trace.certified.has is
-run_zero spec replicas orders status text (inr none) = planless_zero spec status text none
+run_zero : (d : Document) (orders : List Order) (status : ℕ) (text : List ℕ) (bays : Bays) → IsRunAnswer d orders status text bays → IsZeroWhere (HasPlan d.spec) status
+run_zero d orders status text bays (inl (is, trace)) = is_zero (HasPlan d.spec) status trace.certified.has is
+run_zero d orders status text bays (inr none) = planless_zero d.spec status text none
 
 same_parts : (r : Read) (plan given : Plan) (certificate other : Certificate) → r ≡ reads.Parts plan certificate → r ≡ reads.Parts given other → (plan ≡ given) × (certificate ≡ other)
 same_parts r plan given certificate other first second = let both = sym first ∙ second in (cc, cc)
@@ -215,67 +211,67 @@ check_zero spec before lines status text (inr (few, inl (plan, certificate, read
 check_zero spec before lines status text (inr (few, inr (line, read, refusal))) =
     not_zero (HasYes spec lines) status (λ h. both_kinds (read_of spec lines) h.plan h.certificate line h.read read) (λ zero. absurd (omega (arith, refusal.status_is, zero)))
 
-makes_zero : (command : Command) (bytes text : List ℕ) (status : ℕ) → Makes command bytes status text → IsZeroWhere (Succeeds command bytes) status
-makes_zero commands.Simulate bytes text status made =
-    let h = run_zero made.document.spec made.document.replicas made.orders status text made.answer in
+makes_zero : (command : Command) (bytes text : List ℕ) (status : ℕ) (bays : Bays) → Makes command bytes status text bays → IsZeroWhere (Succeeds command bytes) status
+makes_zero commands.Simulate bytes text status bays made =
+    let h = run_zero made.document made.orders status text bays made.answer in
     record {
       zero_if = λ (d, orders, run, plan). h.zero_if (subst (λ (x : Document). HasPlan x.spec) (one_document (document_of bytes) d made.document run.read made.taken.read) plan);
       only_if = λ is. (made.document, made.orders, made.taken, h.only_if is);
     }
-makes_zero commands.Analyse bytes text status made =
+makes_zero commands.Analyse bytes text status bays made =
     let h = analysis_zero made.document.spec status text made.answer in
     record {
       zero_if = λ (d, read, plan). h.zero_if (subst (λ (x : Document). HasPlan x.spec) (one_document (document_of bytes) d made.document read made.read) plan);
       only_if = λ is. (made.document, made.read, h.only_if is);
     }
-makes_zero commands.Check bytes text status made =
+makes_zero commands.Check bytes text status bays made =
     let h = check_zero made.document.spec (length (document_lines (lines_of bytes))) (plan_lines (lines_of bytes)) status text made.answer in
     record {
       zero_if = λ (d, read, good). h.zero_if (subst (λ (x : Document). HasYes x.spec (plan_lines (lines_of bytes))) (one_document (document_before bytes) d made.document read made.read) good);
       only_if = λ is. (made.document, made.read, h.only_if is);
     }
-makes_zero commands.Print bytes text status (is, printed) = is_zero (Succeeds commands.Print bytes) status (printed.document, printed.read) is
+makes_zero commands.Print bytes text status bays (is, printed) = is_zero (Succeeds commands.Print bytes) status (printed.document, printed.read) is
 
-owed_answer : (command : Command) (bytes text : List ℕ) (status : ℕ) → IsAnswerTo command bytes status text → IsOwedBy command bytes status
-owed_answer command bytes text status (inl (is, refused)) = record {
+owed_answer : (command : Command) (bytes text : List ℕ) (status : ℕ) (bays : Bays) → IsAnswerTo command bytes status text bays → IsOwedBy command bytes status
+owed_answer command bytes text status bays (inl (is, refused)) = record {
   other = λ no_input. inl is;
   succeeds = λ h. absurd (input_whole command bytes refused.line refused.cause refused.refused (success_input command bytes h));
   fails = λ no_success zero. absurd (omega (arith, is, zero));
 }
-owed_answer command bytes text status (inr made) =
-    let h = makes_zero command bytes text status made in
+owed_answer command bytes text status bays (inr made) =
+    let h = makes_zero command bytes text status bays made in
     record {
-      other = λ no_input. absurd (no_input (makes_input command bytes text status made));
+      other = λ no_input. absurd (no_input (makes_input command bytes text status bays made));
       succeeds = λ success. inl (h.zero_if success);
       fails = λ no_success zero. no_success (h.only_if zero);
     }
 
-owed_reply : (words : List (List ℕ)) (source : Stream) (told text : List ℕ) (status : ℕ) → source.before ≡ Some told → (Failed source → ⊥) → IsReply words source status text → IsOwed words told status
-owed_reply words source told text status is whole (inl bad) = record {
+owed_reply : (words : List (List ℕ)) (source : Stream) (bays : Bays) (told text : List ℕ) (status : ℕ) → source.before ≡ Some told → (Failed source → ⊥) → IsReply words source bays status text → IsOwed words told status
+owed_reply words source bays told text status is whole (inl bad) = record {
   other_words = λ other. bad.0;
   long = λ command named over. absurd (bad.2 command named);
   short = λ command named within. absurd (bad.2 command named);
 }
-owed_reply words source told text status is whole (inr (command, named, inl fault)) = absurd (whole fault.2)
-owed_reply words source told text status is whole (inr (command, named, inr (inl long))) =
+owed_reply words source bays told text status is whole (inr (command, named, inl fault)) = absurd (whole fault.2)
+owed_reply words source bays told text status is whole (inr (command, named, inr (inl long))) =
     let over = taken_within source.before source.after told (input_limit + 1) is long.2 in
     record {
       other_words = λ other. absurd (other command named);
       long = λ again named' more. inl long.0;
       short = λ again named' within. absurd (omega (arith, over, within));
     }
-owed_reply words source told text status is whole (inr (command, named, inr (inr read))) =
-    let h = read_told source told (λ bytes. IsAnswerTo command bytes status text) is read in
+owed_reply words source bays told text status is whole (inr (command, named, inr (inr read))) =
+    let h = read_told source told (λ bytes. IsAnswerTo command bytes status text bays) is read in
     record {
       other_words = λ other. absurd (other command named);
       long = λ again named' more. absurd (omega (arith, h.1, more));
-      short = λ again named' within. subst (λ c. IsOwedBy c told status) (one_command words command again named named') (owed_answer command told text status h.0);
+      short = λ again named' within. subst (λ c. IsOwedBy c told status) (one_command words command again named named') (owed_answer command told text status bays h.0);
     }
 
-pub complete : (words : List (List ℕ)) (source sink : Stream) (status : ℕ) → IsAnswered words source sink status → IsComplete words source sink status
-complete words source sink status (inl written) = λ told is whole out. owed_reply words source told written.text status is whole written.reply
-complete words source sink status (inr (inl cut)) = λ told is whole out. absurd (out cut.1.failed)
-complete words source sink status (inr (inr memory)) = λ told is whole out. record {
+pub complete : (words : List (List ℕ)) (source sink : Stream) (bays : Bays) (status : ℕ) → IsAnswered words source sink bays status → IsComplete words source sink status
+complete words source sink bays status (inl written) = λ told is whole out. owed_reply words source bays told written.text status is whole written.reply
+complete words source sink bays status (inr (inl cut)) = λ told is whole out. absurd (out cut.1.failed)
+complete words source sink bays status (inr (inr memory)) = λ told is whole out. record {
   other_words = λ other. absurd (other memory.1.0 memory.1.1);
   long = λ command named more. inr memory.0;
   short = λ command named within. record { other = λ no_input. inr memory.0; succeeds = λ success. inr memory.0; fails = λ no_success zero. absurd (omega (arith, memory.0, zero)) };

@@ -1,5 +1,5 @@
 -- What the program answers.
-use Rattle.std.specs.Prelude.{◌≡◌, ◌⊎◌, ℕ, ◌+◌, ◌≤◌, ◌<◌, List, [], ◌∷◌, ◌++◌, length, codes, Ok, Some}
+use Rattle.std.specs.Prelude.{◌≡◌, ◌⊎◌, ℕ, ◌+◌, ◌≤◌, ◌<◌, Bool, IsTrue, List, [], ◌∷◌, ◌++◌, length, codes, Ok, Some}
 use Rattle.std.specs.declared.option.Option.{Option}
 use Rattle.std.specs.Io.KnownBytes.{Appends, Consumes, IsAtEnd, Keeps}
 use Rattle.ind_io.specs.Causes.{Rose}
@@ -15,7 +15,9 @@ use Rattle.run_model.specs.Trace.{trace_text}
 use Rattle.reservation_plan.specs.Derived.{derived_plan}
 use Rattle.certificate_check.specs.declared.certificate.Certificate.{Certificate}
 use Rattle.line_text.specs.declared.cause.Cause.{Cause}
+use Rattle.request_workers.specs.Histories.{BayTells, Bays}
 use Rattle.scenario_text.specs.declared.document.Document.{Document}
+use Rattle.scenario_text.specs.declared.document.StopLine.{StopLine}
 use Rattle.scenario_text.specs.Reading.{IsDocument, document_of}
 use Rattle.scenario_text.specs.Saying.{document_text}
 use Rattle.indigo_program.specs.declared.command.Command.{Command}
@@ -33,30 +35,32 @@ use Rattle.indigo_program.specs.Inputs.{IsInputOf, IsRunnable, Refuses, document
 abbrev pub setup_of : Spec → ℕ → Setup
 setup_of spec replicas = record { spec = spec; plan = derived_plan spec; replicas = replicas }
 
--- the text is the trace of a legal run of the schedule, which is sound at each step
-pub record IsLegalTrace (setup : Setup) (schedule : List Order) (text : List ℕ) : Type 0 where
+-- the text is the trace of a legal run of the schedule, which is sound at each step, from a world in which some replicas are up; and where the bay is telling, it tells so of its disks
+pub record IsLegalTrace (setup : Setup) (lines : List StopLine) (schedule : List Order) (text : List ℕ) (bays : Bays) : Type 0 where
+  pub ups : List Bool
   pub entries : List StepEntry
   pub world : World
-  pub legal : IsLegal setup schedule entries world
-  pub sound : AtEachStep setup entries (IsSound setup)
+  pub legal : IsLegal setup schedule ups entries world
+  pub sound : AtEachStep setup ups entries (IsSound setup)
   pub written : text ≡ trace_text setup entries world
+  pub disks : IsTrue bays.tells → BayTells setup lines ups entries world bays
 
 -- a certificate of the derived plan checks, and the text is the trace of a legal run by that plan
-pub record IsTrace (spec : Spec) (replicas : ℕ) (orders : List Order) (text : List ℕ) : Type 0 where
+pub record IsTrace (document : Document) (orders : List Order) (text : List ℕ) (bays : Bays) : Type 0 where
   pub certificate : Certificate
-  pub certified : IsCertified spec certificate
-  pub trace : IsLegalTrace (setup_of spec replicas) orders text
+  pub certified : IsCertified document.spec certificate
+  pub trace : IsLegalTrace (setup_of document.spec document.replicas) document.stops orders text bays
 
 -- what is answered to a schedule: such a trace, or why there is no plan
-abbrev pub IsRunAnswer : Spec → ℕ → List Order → ℕ → List ℕ → Type 0
-IsRunAnswer spec replicas orders status text = ((status ≡ 0) × IsTrace spec replicas orders text) ⊎ IsPlanless spec status text
+abbrev pub IsRunAnswer : Document → List Order → ℕ → List ℕ → Bays → Type 0
+IsRunAnswer document orders status text bays = ((status ≡ 0) × IsTrace document orders text bays) ⊎ IsPlanless document.spec status text
 
--- the bytes are a document that can be run, and this is answered to its schedule
-pub record IsSimulated (bytes : List ℕ) (status : ℕ) (text : List ℕ) : Type 0 where
+-- the bytes are a document with a schedule, and this is answered to that
+pub record IsSimulated (bytes : List ℕ) (status : ℕ) (text : List ℕ) (bays : Bays) : Type 0 where
   pub document : Document
   pub orders : List Order
   pub taken : IsRunnable bytes document orders
-  pub answer : IsRunAnswer document.spec document.replicas orders status text
+  pub answer : IsRunAnswer document orders status text bays
 
 -- the bytes are a document, and the text is its canonical one
 pub record IsPrinted (bytes text : List ℕ) : Type 0 where
@@ -77,11 +81,11 @@ pub record IsChecked (bytes : List ℕ) (status : ℕ) (text : List ℕ) : Type 
   pub answer : checks.IsAnswer document.spec (length (document_lines (lines_of bytes))) (plan_lines (lines_of bytes)) status text
 
 -- what a command makes of an input that it is for
-abbrev pub Makes : Command → List ℕ → ℕ → List ℕ → Type 0
-Makes commands.Simulate bytes status text = IsSimulated bytes status text
-Makes commands.Analyse bytes status text = IsAnalysed bytes status text
-Makes commands.Check bytes status text = IsChecked bytes status text
-Makes commands.Print bytes status text = (status ≡ 0) × IsPrinted bytes text
+abbrev pub Makes : Command → List ℕ → ℕ → List ℕ → Bays → Type 0
+Makes commands.Simulate bytes status text bays = IsSimulated bytes status text bays
+Makes commands.Analyse bytes status text bays = IsAnalysed bytes status text
+Makes commands.Check bytes status text bays = IsChecked bytes status text
+Makes commands.Print bytes status text bays = (status ≡ 0) × IsPrinted bytes text
 
 -- the text names the line that the command refuses, and why
 pub record IsRefused (command : Command) (bytes text : List ℕ) : Type 0 where
@@ -121,44 +125,44 @@ IsNamed words commands.Check = words ≡ codes "check" ∷ []
 IsNamed words commands.Print = words ≡ codes "print" ∷ []
 
 -- the status and the text that a command has for an input
-abbrev pub IsAnswerTo : Command → List ℕ → ℕ → List ℕ → Type 0
-IsAnswerTo command bytes status text = ((status ≡ 3) × IsRefused command bytes text) ⊎ Makes command bytes status text
+abbrev pub IsAnswerTo : Command → List ℕ → ℕ → List ℕ → Bays → Type 0
+IsAnswerTo command bytes status text bays = ((status ≡ 3) × IsRefused command bytes text) ⊎ Makes command bytes status text bays
 
 -- the status and the text for an input that came: it failed within the limit, was too long, or was read
-abbrev pub IsReplyOf : Command → Stream → ℕ → List ℕ → Type 0
-IsReplyOf command source status text =
+abbrev pub IsReplyOf : Command → Stream → Bays → ℕ → List ℕ → Type 0
+IsReplyOf command source bays status text =
     ((status ≡ 4) × (text ≡ codes "read fault\n") × Failed source × ConsumesWithin source.before source.after input_limit)
     ⊎ ((status ≡ 6) × (text ≡ codes "input too long\n") × ConsumesJust source.before source.after (input_limit + 1))
-    ⊎ WasRead source (λ bytes. IsAnswerTo command bytes status text)
+    ⊎ WasRead source (λ bytes. IsAnswerTo command bytes status text bays)
 
 -- the status and the text for words and an input; for other words nothing is read
-abbrev pub IsReply : List (List ℕ) → Stream → ℕ → List ℕ → Type 0
-IsReply words source status text =
+abbrev pub IsReply : List (List ℕ) → Stream → Bays → ℕ → List ℕ → Type 0
+IsReply words source bays status text =
     ((status ≡ 2) × (text ≡ codes "bad words\n") × ((command : Command) → IsNamed words command → ⊥) × Keeps source.before source.after)
-    ⊎ ((command : Command) × IsNamed words command × IsReplyOf command source status text)
+    ⊎ ((command : Command) × IsNamed words command × IsReplyOf command source bays status text)
 
 -- the whole text is out
-pub record IsWritten (words : List (List ℕ)) (source sink : Stream) (status : ℕ) : Type 0 where
+pub record IsWritten (words : List (List ℕ)) (source sink : Stream) (bays : Bays) (status : ℕ) : Type 0 where
   pub text : List ℕ
-  pub reply : IsReply words source status text
+  pub reply : IsReply words source bays status text
   pub out : Appends sink.before sink.after text
 
 -- the sink failed, and a front of the text is out
-pub record IsCutOff (words : List (List ℕ)) (source sink : Stream) : Type 0 where
+pub record IsCutOff (words : List (List ℕ)) (source sink : Stream) (bays : Bays) : Type 0 where
   pub status : ℕ
   pub text : List ℕ
   pub front : List ℕ
   pub behind : List ℕ
-  pub reply : IsReply words source status text
+  pub reply : IsReply words source bays status text
   pub failed : Failed sink
   pub parts : text ≡ front ++ behind
   pub out : Appends sink.before sink.after front
 
 -- what the program answers: 5 where the sink failed, 9 where memory was wanting for a command and nothing is written, else a reply
-abbrev pub IsAnswered : List (List ℕ) → Stream → Stream → ℕ → Type 0
-IsAnswered words source sink status =
-    IsWritten words source sink status
-    ⊎ ((status ≡ 5) × IsCutOff words source sink)
+abbrev pub IsAnswered : List (List ℕ) → Stream → Stream → Bays → ℕ → Type 0
+IsAnswered words source sink bays status =
+    IsWritten words source sink bays status
+    ⊎ ((status ≡ 5) × IsCutOff words source sink bays)
     ⊎ ((status ≡ 9) × ((command : Command) × IsNamed words command) × ConsumesWithin source.before source.after (input_limit + 1) × Keeps sink.before sink.after)
 
 -- the inputs for which a command succeeds: a schedule that is run and a specification that has a plan, such a specification alone, a plan with a certificate that checks, a document

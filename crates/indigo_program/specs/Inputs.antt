@@ -7,19 +7,16 @@ use Rattle.line_text.specs.Lines.{lines_of}
 use Rattle.scenario_text.specs.declared.document.Document.{Document}
 use Rattle.scenario_text.specs.declared.document.Work.{Work}
 use Rattle.scenario_text.specs.declared.document.Work.TheVariants as works
-use Rattle.scenario_text.specs.Groups.{client_words, unbuilt_words, first_line}
-use Rattle.scenario_text.specs.Built.{IsBuilt}
+use Rattle.scenario_text.specs.Groups.{client_words, first_line}
 use Rattle.scenario_text.specs.Reading.{IsDocument, document_of, document_of_draft, draft_of}
 use Rattle.plan_answers.specs.Splitting.{document_lines}
 use Rattle.indigo_program.specs.declared.command.Command.{Command}
 use Rattle.indigo_program.specs.declared.command.Command.TheVariants as commands
 
--- the bytes are a document with this schedule, and no line of it holds a word that isn't run yet: so it has no stop, crash or recovery
+-- the bytes are a document with this schedule
 pub record IsRunnable (bytes : List ℕ) (document : Document) (orders : List Order) : Type 0 where
   pub read : document_of bytes ≡ Ok document
   pub schedule : document.work ≡ works.Schedule orders
-  pub built : first_line unbuilt_words (lines_of bytes) ≡ None
-  pub lacks : IsBuilt document
 
 -- the document in front of a plan, or its first refused line and why
 abbrev pub document_before : List ℕ → Result Document (ℕ × Cause)
@@ -45,19 +42,10 @@ pub record IsOutOfPlace (bytes : List ℕ) (line : ℕ) (cause : Cause) : Type 0
   pub first : first_line client_words (lines_of bytes) ≡ Some line
   pub cause_is : cause ≡ causes.OutOfPlace
 
--- the bytes are a document with a schedule, and this is its first line that holds a word that isn't run yet
-pub record IsUnbuilt (bytes : List ℕ) (line : ℕ) (cause : Cause) : Type 0 where
-  pub document : Document
-  pub orders : List Order
-  pub read : document_of bytes ≡ Ok document
-  pub schedule : document.work ≡ works.Schedule orders
-  pub first : first_line unbuilt_words (lines_of bytes) ≡ Some line
-  pub cause_is : cause ≡ causes.UnknownLine
-
 -- the line that a command refuses, and why: the bytes are no document, or none that it runs
 abbrev pub Refuses : Command → List ℕ → ℕ → Cause → Type 0
 Refuses commands.Simulate bytes line cause =
-    (document_of bytes ≡ Err (line, cause)) ⊎ IsOutOfPlace bytes line cause ⊎ IsUnbuilt bytes line cause
+    (document_of bytes ≡ Err (line, cause)) ⊎ IsOutOfPlace bytes line cause
 Refuses commands.Analyse bytes line cause = document_of bytes ≡ Err (line, cause)
 Refuses commands.Check bytes line cause = document_before bytes ≡ Err (line, cause)
 Refuses commands.Print bytes line cause = document_of bytes ≡ Err (line, cause)

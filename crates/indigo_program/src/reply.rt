@@ -1,11 +1,11 @@
 //! What each command answers to an input that was read.
 
 ghost use Rattle.std.specs.Prelude.{◌≡◌, ◌<◌, ◌≤◌, ◌++◌, IfOk, Ok, OnOk, codes, length};
-ghost use Rattle.std.specs.List.{AllByRecursion};
 ghost use Rattle.spec_model.specs.Fits.{IsWellFormed};
 ghost use Rattle.run_model.specs.Sound.{IsSettled};
 ghost use Rattle.reservation_plan.specs.Derived.{derived_plan};
-ghost use Rattle.scenario_text.specs.Built.{StaysUp};
+ghost use Rattle.request_workers.specs.Histories.{Bays as BaysOf};
+ghost use Rattle.scenario_text.specs.declared.document.Document.{Document as DocumentOf};
 ghost use Rattle.scenario_text.specs.Reading.{document_of};
 ghost use Rattle.scenario_text.specs.WellFormed.{IsWellFormedDocument, ScheduleFits};
 ghost use Rattle.line_text.specs.Lines.{lines_of};
@@ -16,6 +16,7 @@ ghost use Rattle.indigo_program.specs.declared.command.Command.TheVariants as co
 
 use crate::command::Command;
 use ind_base::{List, NoMemory, put_num};
+use ind_disk::Bay;
 use plan_answers::{
     Analysis, Answer, analyse, analyse_answer, check_answer, line_count, lines, split_at_plan,
 };
@@ -23,7 +24,7 @@ use request_workers::simulate;
 use run_model::Order;
 use run_trace::trace_text;
 use scenario_text::{
-    Cause, Document, Group, ParseError, Work, first_of, parse_document, print_document,
+    Cause, Document, Group, ParseError, StopLine, Work, first_of, parse_document, print_document,
 };
 use spec_model::{Setup, Spec};
 use std::alloc::Global;
@@ -60,31 +61,39 @@ fn refused(alloc: Global, line: u32, cause: Cause) -> Result<Answer, NoMemory>
     Ok(Answer { status: 3, text })
 }
 
-/// The trace of replicas on a schedule.
-fn trace(alloc: Global, setup: &Setup, orders: &[Order]) -> Result<List<u8>, NoMemory>
+/// The trace of replicas on a schedule, over disks of the bay.
+fn trace<B: Bay>(
+    alloc: Global,
+    setup: &Setup,
+    stops: &[StopLine],
+    orders: &[Order],
+    bay: &mut B,
+) -> Result<List<u8>, NoMemory>
     requires settled { IsSettled setup.now }
     requires few { setup.now.replicas ≤ 8 }
     requires schedule { ScheduleFits setup.now.spec setup.now.replicas orders.now }
-    requires up { AllByRecursion (λ order. StaysUp order.ask) orders.now }
-    ensures { IfOk result (λ text. IsLegalTrace setup.now orders.now text) }
+    ensures { IfOk result (λ text. IsLegalTrace setup.now stops.now orders.now text
+        (record { tells = B.tells bay.old; given_before = B.given bay.old; given_after = B.given bay.new; left = B.left bay.new })) }
 {
-    let histories = simulate(alloc, setup, orders)?;
+    let histories = simulate(alloc, setup, stops, orders, bay)?;
     trace_text(alloc, &setup.spec, histories.as_slice())
 }
 
 /// Runs replicas on a schedule by the derived plan, or says why there is none.
-fn run_by_plan(
+fn run_by_plan<B: Bay>(
     alloc: Global,
     spec: Spec,
     replicas: u32,
+    stops: &[StopLine],
     orders: &[Order],
+    bay: &mut B,
 ) -> Result<Answer, NoMemory>
     requires well_formed { IsWellFormed spec }
     requires some { 0 < replicas }
     requires few { replicas ≤ 8 }
     requires schedule { ScheduleFits spec replicas orders.now }
-    requires up { AllByRecursion (λ order. StaysUp order.ask) orders.now }
-    ensures { IfOk result (λ reply. IsRunAnswer spec replicas orders.now reply.status reply.text) }
+    ensures { (document : DocumentOf) → document.spec ≡ spec → document.replicas ≡ replicas → document.stops ≡ stops.now → IfOk result (λ reply. IsRunAnswer document orders.now reply.status reply.text
+        (record { tells = B.tells bay.old; given_before = B.given bay.old; given_after = B.given bay.new; left = B.left bay.new })) }
 {
     let plan = match analyse(alloc, &spec)? {
         Analysis::Planned(analysed) => analysed.plan,
@@ -97,21 +106,27 @@ fn run_by_plan(
     };
     Ok(Answer {
         status: 0,
-        text: trace(alloc, &setup, orders)?,
+        text: trace(alloc, &setup, stops, orders, bay)?,
     })
 }
 
-/// Runs a document, or refuses a line of it that isn't run.
-fn run(alloc: Global, bytes: &[u8], document: Document) -> Result<Answer, NoMemory>
+/// Runs a document with a schedule, or refuses the first line about clients.
+fn run<B: Bay>(
+    alloc: Global,
+    bytes: &[u8],
+    document: Document,
+    bay: &mut B,
+) -> Result<Answer, NoMemory>
     requires read { document_of bytes.now ≡ Ok document }
     requires formed { IsWellFormedDocument document }
     requires short { length bytes.now ≤ input_limit }
-    ensures { IfOk result (λ reply. IsAnswerTo commands.Simulate bytes.now reply.status reply.text) }
+    ensures { IfOk result (λ reply. IsAnswerTo commands.Simulate bytes.now reply.status reply.text
+        (record { tells = B.tells bay.old; given_before = B.given bay.old; given_after = B.given bay.new; left = B.left bay.new })) }
 {
     let Document {
         spec,
         replicas,
-        stops: _,
+        stops,
         work,
     } = document;
     match work {
@@ -119,19 +134,24 @@ fn run(alloc: Global, bytes: &[u8], document: Document) -> Result<Answer, NoMemo
             Some(line) => refused(alloc, line, Cause::OutOfPlace),
             None => unreachable!(),
         },
-        Work::Schedule(orders) => match first_of(bytes, Group::Unbuilt) {
-            Some(line) => refused(alloc, line, Cause::UnknownLine),
-            None => run_by_plan(alloc, spec, replicas, orders.as_slice()),
-        },
+        Work::Schedule(orders) => run_by_plan(
+            alloc,
+            spec,
+            replicas,
+            stops.as_slice(),
+            orders.as_slice(),
+            bay,
+        ),
     }
 }
 
-fn simulated(alloc: Global, bytes: &[u8]) -> Result<Answer, NoMemory>
+fn simulated<B: Bay>(alloc: Global, bytes: &[u8], bay: &mut B) -> Result<Answer, NoMemory>
     requires { length bytes.now ≤ input_limit }
-    ensures { IfOk result (λ reply. IsAnswerTo commands.Simulate bytes.now reply.status reply.text) }
+    ensures { IfOk result (λ reply. IsAnswerTo commands.Simulate bytes.now reply.status reply.text
+        (record { tells = B.tells bay.old; given_before = B.given bay.old; given_after = B.given bay.new; left = B.left bay.new })) }
 {
     match parse_document(alloc, bytes) {
-        Ok(document) => run(alloc, bytes, document),
+        Ok(document) => run(alloc, bytes, document, bay),
         Err(ParseError::BadLine { line, cause }) => refused(alloc, line, cause),
         Err(ParseError::Memory) => Err(NoMemory),
     }
@@ -139,7 +159,7 @@ fn simulated(alloc: Global, bytes: &[u8]) -> Result<Answer, NoMemory>
 
 fn printed(alloc: Global, bytes: &[u8]) -> Result<Answer, NoMemory>
     requires { length bytes.now ≤ input_limit }
-    ensures { IfOk result (λ reply. IsAnswerTo commands.Print bytes.now reply.status reply.text) }
+    ensures { (bays : BaysOf) → IfOk result (λ reply. IsAnswerTo commands.Print bytes.now reply.status reply.text bays) }
 {
     match parse_document(alloc, bytes) {
         Ok(document) => Ok(Answer {
@@ -153,7 +173,7 @@ fn printed(alloc: Global, bytes: &[u8]) -> Result<Answer, NoMemory>
 
 fn analysed(alloc: Global, bytes: &[u8]) -> Result<Answer, NoMemory>
     requires { length bytes.now ≤ input_limit }
-    ensures { IfOk result (λ reply. IsAnswerTo commands.Analyse bytes.now reply.status reply.text) }
+    ensures { (bays : BaysOf) → IfOk result (λ reply. IsAnswerTo commands.Analyse bytes.now reply.status reply.text bays) }
 {
     match parse_document(alloc, bytes) {
         Ok(document) => analyse_answer(alloc, &document.spec),
@@ -179,7 +199,7 @@ fn verdict(
 
 fn checked(alloc: Global, bytes: &[u8]) -> Result<Answer, NoMemory>
     requires { length bytes.now ≤ input_limit }
-    ensures { IfOk result (λ reply. IsAnswerTo commands.Check bytes.now reply.status reply.text) }
+    ensures { (bays : BaysOf) → IfOk result (λ reply. IsAnswerTo commands.Check bytes.now reply.status reply.text bays) }
 {
     let (front, plan) = split_at_plan(bytes);
     match parse_document(alloc, front) {
@@ -189,13 +209,19 @@ fn checked(alloc: Global, bytes: &[u8]) -> Result<Answer, NoMemory>
     }
 }
 
-/// What the command answers to this input.
-pub(crate) fn make_reply(alloc: Global, command: Command, bytes: &[u8]) -> Result<Answer, NoMemory>
+/// What the command answers to this input. Only a simulation asks the bay for disks.
+pub(crate) fn make_reply<B: Bay>(
+    alloc: Global,
+    command: Command,
+    bytes: &[u8],
+    bay: &mut B,
+) -> Result<Answer, NoMemory>
     requires { length bytes.now ≤ input_limit }
-    ensures { IfOk result (λ reply. IsAnswerTo command bytes.now reply.status reply.text) }
+    ensures { IfOk result (λ reply. IsAnswerTo command bytes.now reply.status reply.text
+        (record { tells = B.tells bay.old; given_before = B.given bay.old; given_after = B.given bay.new; left = B.left bay.new })) }
 {
     match command {
-        Command::Simulate => simulated(alloc, bytes),
+        Command::Simulate => simulated(alloc, bytes, bay),
         Command::Analyse => analysed(alloc, bytes),
         Command::Check => checked(alloc, bytes),
         Command::Print => printed(alloc, bytes),

@@ -6,6 +6,7 @@ ghost use Rattle.indigo_program.specs.Finishing.{Finishes};
 
 use crate::reply::make_reply;
 use crate::words::command_of;
+use ind_disk::Bay;
 use ind_io::{ReadAllError, Sink, Source, read_all, write_all};
 use std::alloc::Global;
 
@@ -29,16 +30,23 @@ fn finish<K: Sink>(sink: &mut K, text: &[u8], status: u8) -> u8
 /// the plan with a certificate; `check` takes a document with these behind it, and answers whether
 /// they check (all 0). Other words are answered `bad words` (2), and a text that is no document by
 /// its first refused line (3). So does `simulate` refuse the first line about clients as
-/// `out of place`, and in other documents the first line with a word that it doesn't run yet as
-/// `unknown line`. Where there is no plan `simulate` and `analyse` answer `too many cases` (7), else
+/// `out of place`; its replicas keep their journals on disks of the bay, which stop where the
+/// document's lines say. Where there is no plan `simulate` and `analyse` answer `too many cases` (7), else
 /// the first conflict of two operations that are declared free (1) or `too hard` (8), whichever comes
 /// first; `check` too answers `too many cases`, and the first line that it refuses (1). A source that
 /// fails is answered `read fault` (4), and more than 4,194,304 bytes `input too long` (6). A sink
 /// that fails is 5, with a front of the text out. Want of memory is 9, and nothing is written.
-pub fn tool<S: Source, K: Sink>(alloc: Global, words: &[String], source: &mut S, sink: &mut K) -> u8
+pub fn tool<S: Source, K: Sink, B: Bay>(
+    alloc: Global,
+    words: &[String],
+    source: &mut S,
+    sink: &mut K,
+    bay: &mut B,
+) -> u8
     ensures answered { IsAnswered (map string_bytes words.now)
         (record { before = S.left source.old; after = S.left source.new; faults_before = S.faults source.old; faults_after = S.faults source.new })
         (record { before = K.held sink.old; after = K.held sink.new; faults_before = K.faults sink.old; faults_after = K.faults sink.new })
+        (record { tells = B.tells bay.old; given_before = B.given bay.old; given_after = B.given bay.new; left = B.left bay.new })
         result }
     ensures complete { IsComplete (map string_bytes words.now)
         (record { before = S.left source.old; after = S.left source.new; faults_before = S.faults source.old; faults_after = S.faults source.new })
@@ -55,7 +63,7 @@ pub fn tool<S: Source, K: Sink>(alloc: Global, words: &[String], source: &mut S,
         Err(ReadAllError::TooLong) => return finish(sink, b"input too long\n", 6),
         Err(ReadAllError::Memory) => return 9,
     };
-    match make_reply(alloc, command, bytes.as_slice()) {
+    match make_reply(alloc, command, bytes.as_slice(), bay) {
         Ok(reply) => finish(sink, reply.text.as_slice(), reply.status),
         Err(_) => 9,
     }

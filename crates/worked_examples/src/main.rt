@@ -8,6 +8,7 @@
 #![tactic(auto)]
 
 use ind_base::{List, NoMemory, put_num, read_num};
+use ind_disk::MemBay;
 use ind_io::{MemSink, MemSource};
 use indigo_program::tool;
 use std::alloc::Global;
@@ -17,8 +18,9 @@ use std::{fs, io, mem};
 const ROOM: u64 = 1_000_000;
 
 /// The files of examples.
-const FILES: [&str; 8] = [
+const FILES: [&str; 10] = [
     "certificates.txt",
+    "crashes.txt",
     "documents.txt",
     "examples.txt",
     "language.txt",
@@ -26,6 +28,7 @@ const FILES: [&str; 8] = [
     "plans.txt",
     "rights.txt",
     "runs.txt",
+    "stops.txt",
 ];
 
 /// How an end in memory moves bytes: how many a call takes, and which calls fail.
@@ -155,7 +158,8 @@ impl Example {
         }
         let mut source = MemSource::new(input, source.piece.max(1), source.fails);
         let mut sink = MemSink::new(alloc, ROOM, sink.piece.max(1), sink.fails)?;
-        let got = tool(alloc, words.as_slice(), &mut source, &mut sink);
+        let mut bay = MemBay::new(alloc)?;
+        let got = tool(alloc, words.as_slice(), &mut source, &mut sink, &mut bay);
         Ok(got == status && sink.bytes() == output.as_slice())
     }
 }

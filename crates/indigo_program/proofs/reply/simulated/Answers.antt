@@ -3,4 +3,4 @@ use Rattle.indigo_program.proofs.Lines.{lines_short}
 use Rattle.indigo_program.proofs.reply.simulated.Goals as goal
 
 pub parse_document-requires : goal.parse_document-requires
-parse_document-requires c = omega (arith, lines_short c.args.bytes.now, c.requires)
+parse_document-requires g c = omega (arith, lines_short c.args.bytes.now, c.requires)
