@@ -121,7 +121,7 @@ def check(test, cause):
 def parse(data, stop_at_plan=False):
     """The document, as a record with spec, replicas and schedule (a list of (replica, ask, number of line)); Refused otherwise."""
     spec = Rec(sorts=[], preds=[], nums=[], clauses=[], ops=[], free=[])
-    doc = Rec(spec=spec, replicas=None, schedule=[], stops=[], clients=[], first_client_line=None, unbuilt=None)
+    doc = Rec(spec=spec, replicas=None, schedule=[], stops=[], clients=[], first_client_line=None)
     rank, sends, atoms_cells, instances = 0, {}, 0, 0
     names = {}
 
@@ -345,8 +345,6 @@ def parse(data, stop_at_plan=False):
             else:
                 doc.clients.append(head)
                 doc.first_client_line = doc.first_client_line or number
-            if head in ("stop", "crash", "recover"):
-                doc.unbuilt = doc.unbuilt or number
         except Bad as bad:
             raise Refused(3, f"line {number}: {bad}")
     else:

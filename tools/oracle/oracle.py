@@ -6,10 +6,12 @@ usage: oracle.py DOCUMENT [PLAN] [--sound] [--plan]
 Prints what `simulate` has to print, and ends with its status. DOCUMENT is a file, or - for the input. PLAN is a file with
 what `analyse` prints (only its lines `lock` and `part` are read); without it the plan is derived by brute force.
 --plan prints the plan alone. --sound also checks IsSound in the last world, over every consistent cut, and says what fails.
-Crashes, stops and clients aren't in these definitions: the first such line is refused as the program does.
+Clients aren't in these definitions: the first such line is refused as the program does.
 
-An own log is given to the definitions as a list; since logs only grow, what was found of a log of some length is kept."""
+An own log is given to the definitions as a list; since logs only grow, what was found of a log of some length is kept, but
+forgotten where a step leaves what it drafted."""
 import itertools, sys
+import disk as disks
 from types import SimpleNamespace as Rec
 from document import Refused, parse, derive, read_plan, plan_text
 
@@ -500,8 +502,22 @@ def piece_for(held, ask):
 
 # ==== run_model: Worlds, Steps
 
-def first_world(replicas):
-    return [Rec(log=[], cut=[0] * replicas, stamp=0, wants=[], told=[[0] * replicas for _ in range(replicas)], sendings=[]) for _ in range(replicas)]
+def no_told(replicas):
+    return [[0] * replicas for _ in range(replicas)]
+
+
+def first_standing(replicas, stops):
+    """Up, or down where its disk fails at the start."""
+    p = Rec(log=[], cut=[0] * replicas, stamp=0, wants=[], told=no_told(replicas), sendings=[], up=True, pending=None, kept=[], disk=disks.Disk(stops), gate=9)
+    try:
+        disks.start(p.disk)
+    except disks.Failed:
+        p.up = False
+    return p
+
+
+def first_world(replicas, stops=()):
+    return [first_standing(replicas, [s[1:] for s in stops if s[0] == r]) for r in range(replicas)]
 
 
 def logs_of(world):
@@ -558,22 +574,88 @@ def takes(setup, world, me, message):
     return ("Took", message.number, len(applied), len(accepts), gave)
 
 
+def forget(setup, p, up, pending):
+    """What was wanted and told isn't on the disk."""
+    p.wants, p.told, p.up, p.pending = [], no_told(setup.replicas), up, pending
+
+
+def drafts(setup, world, me, ask, heard, stamp):
+    """What a replica that is up would answer if its disk never failed, and the items that it would keep."""
+    p = world[me]
+    old, others = len(p.log), list(p.cut)
+    if ask[0] == "Do":
+        outcome = requests(setup, world, me, ask[1])
+    elif ask[0] == "Send":
+        outcome = sends(setup, world, me, ask[1], ask[2], stamp)
+    elif ask[0] == "Recover":
+        outcome = ("Up",)
+    elif ask[0] == "Crash":
+        forget(setup, p, False, None)
+        outcome = ("Stopped",)
+    else:
+        outcome = ("Unsent",) if heard.message is None else takes(setup, world, me, heard.message)
+    applied = [i for r, log in enumerate(logs_of(world)) if r != me for i in log[others[r]:p.cut[r]]]
+    return outcome, applied + p.log[old:]
+
+
+def answers_up(setup, world, me, ask, heard, stamp):
+    p = world[me]
+    old = (list(p.log), list(p.cut))
+    outcome, items = drafts(setup, world, me, ask, heard, stamp)
+    if not items:
+        return outcome
+    text = disks.batch_bytes(setup.replicas, items)
+    try:
+        p.gate = disks.append(p.disk, p.gate, text)
+        p.kept.append(text)
+    except disks.Failed:
+        p.log, p.cut = old
+        forget(setup, p, False, (text, items))
+        setup.kept.clear()
+        return ("DiskBroken",)
+    return outcome
+
+
+def recovers(setup, me, p):
+    p.disk.restart()
+    try:
+        found, gate = disks.start(p.disk)
+    except disks.Failed:
+        return ("DiskBroken",)
+    outcome = ("Same",) if p.pending is None else ("Lost",)
+    if found != p.kept:
+        text, items = p.pending
+        assert found == p.kept + [text]
+        p.kept.append(text)
+        p.log += [i for i in items if i.origin == me]
+        for i in items:
+            p.cut[i.origin] = i.index + 1
+        outcome = ("Kept",)
+    p.gate = gate
+    forget(setup, p, True, None)
+    return outcome
+
+
+def answers_down(setup, me, p, ask, stamp):
+    if ask[0] == "Recover":
+        return recovers(setup, me, p)
+    if ask[0] == "Send":
+        p.sendings.append(Rec(to=ask[1], stamp=stamp, message=None))
+    return ("Down",)
+
+
 def step(setup, world, me, ask):
     """One step; the entry is (stamp, replica, ask, outcome)."""
     p = world[me]
-    if ask[0] == "Take":
-        heard = [s for s in world[ask[1]].sendings if s.to == me][ask[2]]
-        stamp = max(p.stamp, heard.stamp) + 1
-        outcome = takes(setup, world, me, heard.message)
-    else:
-        stamp = p.stamp + 1
-        outcome = requests(setup, world, me, ask[1]) if ask[0] == "Do" else sends(setup, world, me, ask[1], ask[2], stamp)
+    heard = [s for s in world[ask[1]].sendings if s.to == me][ask[2]] if p.up and ask[0] == "Take" else None
+    stamp = max(p.stamp, heard.stamp if heard else 0) + 1
+    outcome = answers_up(setup, world, me, ask, heard, stamp) if p.up else answers_down(setup, me, p, ask, stamp)
     p.stamp = stamp
     return (stamp, me, ask, outcome)
 
 
 def run(setup, schedule):
-    world = first_world(setup.replicas)
+    world = first_world(setup.replicas, setup.stops)
     entries = [step(setup, world, me, ask) for me, ask in schedule]
     return sorted(entries, key=lambda e: e[:2]), world
 
@@ -615,9 +697,10 @@ def lacking_text(spec, lacking):
 
 def entry_text(spec, entry):
     stamp, me, ask, o = entry
-    asked = "do " + inst_text(spec, ask[1]) if ask[0] == "Do" else f"{ask[0].lower()} r{ask[1]} {ask[2]}"
+    asked = "do " + inst_text(spec, ask[1]) if ask[0] == "Do" else ask[0].lower() if len(ask) == 1 else f"{ask[0].lower()} r{ask[1]} {ask[2]}"
     got = {"Done": lambda: f"done {o[1]}", "Breaks": lambda: f"breaks {o[1][0]}{tuple_text(o[1][1])}", "Short": lambda: lacking_text(spec, o[1]),
-           "Sent": lambda: f"entries {o[2]} wants {o[3]}", "Took": lambda: f"applied {o[2]} accepted {o[3]} gave {o[4]}"}[o[0]]()
+           "Sent": lambda: f"entries {o[2]} wants {o[3]}", "Took": lambda: f"applied {o[2]} accepted {o[3]} gave {o[4]}",
+           "DiskBroken": lambda: "broken"}.get(o[0], lambda: o[0].lower())()
     return f"{stamp} r{me} {asked} : {got}\n"
 
 
@@ -640,6 +723,8 @@ def hold_lines(setup, logs, me, own):
 
 
 def final_text(setup, logs, me, p):
+    if not p.up:
+        return f"r{me} down\n"
     spec, items, s = setup.spec, items_in(p.cut, logs), truths_in(setup, logs, p.cut)
     lines = ["cut" + "".join(f" {n}" for n in p.cut)]
     lines += [f"true {spec.preds[q].name}{tuple_text(xs)}" for q, xs in atoms(spec) if s(q, xs)]
@@ -747,10 +832,8 @@ def setup_of(data, plan=None):
     doc = parse(data)
     if doc.first_client_line:
         raise Refused(3, f"line {doc.first_client_line}: out of place")
-    if doc.unbuilt:
-        raise Refused(3, f"line {doc.unbuilt}: unknown line")
     found = derive(doc.spec) if plan is None else read_plan(doc.spec, plan)
-    return Rec(spec=doc.spec, plan=found, replicas=doc.replicas, kept={}), [(me, ask) for me, ask, line in doc.schedule]
+    return Rec(spec=doc.spec, plan=found, replicas=doc.replicas, stops=doc.stops, kept={}), [(me, ask) for me, ask, line in doc.schedule]
 
 
 def simulate(data, plan=None):
