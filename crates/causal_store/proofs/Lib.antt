@@ -1,2 +1,10 @@
 pub mod Stored
+pub mod Rooms
 pub mod Agreed
+pub mod Kept
+pub mod Tagged
+pub mod Prevailing
+pub mod Summed
+pub mod TouchedAtoms
+pub mod TouchedCells
+pub mod Stepped

@@ -8,6 +8,9 @@ use Rattle.spec_model.specs.Truths.{Truths}
 use Rattle.run_model.specs.Logs.{Logs, items_in}
 use Rattle.run_model.specs.States.{truth_of}
 use Rattle.run_model.specs.Fitting.{IsPlaced}
+use Rattle.spec_model.specs.Fits.{IsWellFormed}
+use Rattle.causal_store.specs.Folds.{all_items}
+use Rattle.causal_store.specs.Keeping.{KeepsSums, KeepsTags}
 use Rattle.causal_store.specs.declared.store.Store.{Store}
 
 -- the logs that it keeps, of each replica as far as it is known
@@ -18,12 +21,15 @@ logs_in s = map (λ log. log.items) s.logs.items
 abbrev pub cut_in : Store → List ℕ
 cut_in s = s.cut
 
--- it keeps a log for each of so many replicas, of items that fit, and counts them
-pub record IsStore (replicas : ℕ) (s : Store) : Type 0 where
+-- it keeps a log for each of so many replicas, of items that fit, and counts them; of each atom its live tags, and of each cell its sums
+pub record IsStore (spec : Spec) (replicas : ℕ) (s : Store) : Type 0 where
   pub whole : length (logs_in s) ≡ replicas
   pub few : replicas ≤ 16
   pub counts : cut_in s ≡ map (λ log. length log) (logs_in s)
   pub fits : AllByRecursion (AllByRecursion (IsPlaced replicas)) (logs_in s)
+  pub formed : IsWellFormed spec
+  pub tags : KeepsTags spec replicas (all_items (logs_in s)) s.tags
+  pub sums : KeepsSums spec (all_items (logs_in s)) s.sums
 
 -- the truths of the state of the acts that it has
 abbrev pub state_truths : Spec → Store → Truths

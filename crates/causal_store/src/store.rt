@@ -1,7 +1,6 @@
 //! The items that a replica has applied, and the state that they give.
 
-ghost use Rattle.std.specs.Prelude.{◌≡◌, ◌<◌, ◌≤◌, ◌+◌, ◌++◌, ◌∷◌, ◌+ℤ◌, ◌-ℤ◌, ◌≤ℤ◌, ◌^◌, pos, [], ℕ, All, List, IfOk, OnOk, vec_capacity, length, replicate, slice_index, slice_set};
-ghost use Rattle.std.specs.List.{list_any};
+ghost use Rattle.std.specs.Prelude.{not, ◌&&◌, ◌||◌, ◌≡◌, ◌<◌, ◌≤◌, ◌+◌, ◌++◌, ◌∷◌, ◌+ℤ◌, ◌-ℤ◌, ◌≤ℤ◌, ◌^◌, pos, [], ℕ, All, List as ListOf, IfOk, OnOk, vec_capacity, length, replicate, slice_index, slice_set};
 ghost use Rattle.spec_model.specs.declared.spec.Spec.{Spec};
 ghost use Rattle.spec_model.specs.declared.log.LogItem.{LogItem as ItemOf};
 ghost use Rattle.spec_model.specs.Fits.{IsWellFormed};
@@ -9,13 +8,16 @@ ghost use Rattle.run_model.specs.Logs.{LiesWithin, items_in, log_at};
 ghost use Rattle.run_model.specs.Fitting.{IsPlaced};
 ghost use mathlib.Core.Bool.{beq};
 ghost use Rattle.spec_model.specs.Truths.{pred_at, wins};
+ghost use Rattle.effect_model.specs.Places.{AtomFits, CellFits};
 ghost use Rattle.spec_model.specs.Universe.{first_value};
-ghost use Rattle.run_model.specs.States.{is_first_unfollowed, is_setter, is_unfollowed, prevails, value_of};
-ghost use Rattle.causal_store.specs.Folds.{all_items, is_setter_past, known_by};
+ghost use Rattle.run_model.specs.States.{lowered_by, prevails, raised_by, value_of};
+ghost use Rattle.causal_store.specs.Folds.{all_items};
 
-use crate::fold::{has_setter, has_setter_past, join_setters, log_lowers, log_raises};
-use ind_base::{Cut, NoMemory};
-use spec_model::{Atom, Cell, LogItem, Rule, Spec as Specification};
+use crate::sums::{Sums, first_sums, sum_item};
+use crate::tags::{Tags, first_tags, tag_item, winning_value};
+use effect_model::{atom_count, atom_place, cell_count, cell_place};
+use ind_base::{Cut, List, NoMemory};
+use spec_model::{Atom, Cell, LogItem, Spec as Specification};
 use std::alloc::Global;
 
 /// The items that were applied, of each log in its order.
@@ -25,20 +27,10 @@ use std::alloc::Global;
 pub struct Store {
     logs: Vec<Vec<LogItem>>,
     cut: Cut,
-}
-
-/// The value that wins of two concurrent ones.
-fn winning_value(spec: &Specification, pred: u32) -> bool
-    ensures { result ≡ wins spec.now pred }
-{
-    match spec.preds.get(pred as usize) {
-        Some(pred) => match pred.rule {
-            Rule::AddWins => true,
-            Rule::RemoveWins => false,
-            Rule::Locked => true,
-        },
-        None => true,
-    }
+    /// Of each atom, by its place in the universe.
+    tags: List<Tags>,
+    /// Of each cell, by its place in the universe.
+    sums: List<Sums>,
 }
 
 /// Whether this is the first value of a predicate's atoms.
@@ -49,6 +41,13 @@ fn is_first(spec: &Specification, pred: u32, truth: bool) -> bool
         Some(pred) => pred.first == truth,
         None => !truth,
     }
+}
+
+/// Whether the first value stands, since nothing follows it, or a live tag is left.
+fn stands(first: bool, followed: bool, live: bool) -> bool
+    ensures { result ≡ ((first && not followed) || live) }
+{
+    (first && !followed) || live
 }
 
 /// The first value of a cell, raised and lowered by so much.
@@ -83,11 +82,12 @@ impl Store {
     ghost use Rattle.causal_store.specs.Stores.{HasRoomFor, IsShort, IsStore, cut_in, logs_in, room_in, state_truths};
 
     /// No items, of so many replicas.
-    pub fn begin(alloc: Global, replicas: u32) -> Result<Store, NoMemory>
-        requires { replicas ≤ 16 }
+    pub fn begin(alloc: Global, spec: &Specification, replicas: u32) -> Result<Store, NoMemory>
+        requires well_formed { IsWellFormed spec.now }
+        requires few { replicas ≤ 16 }
         ensures empty { IfOk result (λ s. logs_in s ≡ replicate replicas []) }
-        ensures own { IfOk result (IsStore replicas) }
-        ensures applied { (spec : Spec) → IfOk result (HasApplied spec replicas []) }
+        ensures own { IfOk result (IsStore spec.now replicas) }
+        ensures applied { IfOk result (HasApplied spec.now replicas []) }
     {
         let mut logs = Vec::new(alloc);
         let mut cut = Cut::new();
@@ -95,7 +95,14 @@ impl Store {
             logs.push(Vec::new(alloc))?;
             cut.push(0);
         }
-        Ok(Store { logs, cut })
+        let tags = first_tags(alloc, replicas, atom_count(spec))?;
+        let sums = first_sums(alloc, cell_count(spec))?;
+        Ok(Store {
+            logs,
+            cut,
+            tags,
+            sums,
+        })
     }
 
     /// How many items of each log were applied.
@@ -120,6 +127,8 @@ impl Store {
         ensures cut { cut_in self.new ≡ cut_in self.old }
         ensures room { OnOk result (count ≤ room_in self.new origin) }
         ensures rooms { (i : ℕ) → room_in self.old i ≤ room_in self.new i }
+        ensures tags { self.new.tags ≡ self.old.tags }
+        ensures sums { self.new.sums ≡ self.old.sums }
     {
         self.logs[origin as usize].reserve(count)?;
         Ok(())
@@ -132,6 +141,7 @@ impl Store {
         ensures logs { logs_in self.new ≡ logs_in self.old }
         ensures cut { cut_in self.new ≡ cut_in self.old }
         ensures room { OnOk result (HasRoomFor self.new items.now) }
+        ensures own { (spec : Spec) (replicas : ℕ) → IsStore spec replicas self.old → IsStore spec replicas self.new }
     {
         for item in items {
             self.make_room(item.origin, items.len())?;
@@ -141,86 +151,40 @@ impl Store {
 
     /// Applies the next item of its log, for which room was made.
     pub fn apply(&mut self, spec: &Specification, item: &LogItem)
-        requires own { IsStore (length (logs_in self.old)) self.old }
+        requires own { IsStore spec.now (length (logs_in self.old)) self.old }
         requires fits { IsPlaced (length (logs_in self.old)) item.now }
         requires next { item.now.index ≡ length (log_at (logs_in self.old) item.now.origin) }
-        requires room { (items : List ItemOf) × HasRoomFor self.old (item.now ∷ items) }
+        requires room { (items : ListOf ItemOf) × HasRoomFor self.old (item.now ∷ items) }
         ensures applied { logs_in self.new ≡ slice_set (logs_in self.old) item.now.origin (log_at (logs_in self.old) item.now.origin ++ item.now ∷ []) }
-        ensures own { IsStore (length (logs_in self.old)) self.new }
-        ensures order { (items : List ItemOf) → HasApplied spec.now (length (logs_in self.old)) items self.old → LiesWithin item.now.deps (cut_in self.old) → HasApplied spec.now (length (logs_in self.old)) (items ++ item.now ∷ []) self.new }
-        ensures room { (items : List ItemOf) → HasRoomFor self.old (item.now ∷ items) → HasRoomFor self.new items }
+        ensures own { IsStore spec.now (length (logs_in self.old)) self.new }
+        ensures order { (items : ListOf ItemOf) → HasApplied spec.now (length (logs_in self.old)) items self.old → LiesWithin item.now.deps (cut_in self.old) → HasApplied spec.now (length (logs_in self.old)) (items ++ item.now ∷ []) self.new }
+        ensures room { (items : ListOf ItemOf) → HasRoomFor self.old (item.now ∷ items) → HasRoomFor self.new items }
     {
         let origin = item.origin as usize;
         push_within(&mut self.logs[origin], item);
         self.cut.set(origin, item.index + 1);
+        tag_item(spec, item, &mut self.tags);
+        sum_item(spec, item, &mut self.sums);
     }
 
-    /// The most that the setters of this value have in their pasts.
-    fn pasts(&self, spec: &Specification, atom: &Atom, truth: bool) -> Cut
-        requires { IsStore (length (logs_in self.now)) self.now }
-        ensures { (i : ℕ) → slice_index result i ≡ known_by spec.now atom.now.pred atom.now.args truth (all_items (logs_in self.now)) i }
+    /// Whether the winning value prevails at an atom: a live tag is left, or the first value stands.
+    fn prevails(&self, spec: &Specification, atom: &Atom, winning: bool) -> bool
+        requires own { IsStore spec.now (length (logs_in self.now)) self.now }
+        requires fits { AtomFits spec.now atom.now }
+        requires wins { winning ≡ wins spec.now atom.now.pred }
+        ensures { result ≡ prevails spec.now atom.now.pred atom.now.args winning (all_items (logs_in self.now)) }
     {
-        let mut past = Cut::new();
-        for _i in 0..self.logs.len() {
-            past.push(0);
-        }
-        for log in &self.logs {
-            join_setters(&mut past, spec, atom, truth, log.as_slice());
-        }
-        past
-    }
-
-    /// Whether some item is a setter of this value.
-    fn is_set(&self, spec: &Specification, atom: &Atom, truth: bool) -> bool
-        ensures { result ≡ list_any (is_setter spec.now atom.now.pred atom.now.args truth) (all_items (logs_in self.now)) }
-    {
-        for log in &self.logs {
-            if has_setter(spec, atom, truth, log.as_slice()) {
-                return true;
-            }
-        }
-        false
-    }
-
-    /// Whether some item is a setter of this value that the cut doesn't have.
-    fn is_set_past(&self, spec: &Specification, atom: &Atom, truth: bool, cut: &Cut) -> bool
-        ensures { result ≡ list_any (is_setter_past spec.now atom.now.pred atom.now.args truth cut.now) (all_items (logs_in self.now)) }
-    {
-        for log in &self.logs {
-            if has_setter_past(spec, atom, truth, cut, log.as_slice()) {
-                return true;
-            }
-        }
-        false
-    }
-
-    /// Whether the first value is this one, and no setter of the other follows it.
-    fn first_prevails(&self, spec: &Specification, atom: &Atom, truth: bool) -> bool
-        ensures { result ≡ is_first_unfollowed spec.now atom.now.pred atom.now.args truth (all_items (logs_in self.now)) }
-    {
-        is_first(spec, atom.pred, truth) && !self.is_set(spec, atom, !truth)
-    }
-
-    /// Whether some act is a setter of this value that no setter of the other follows.
-    fn act_prevails(&self, spec: &Specification, atom: &Atom, truth: bool) -> bool
-        requires { IsStore (length (logs_in self.now)) self.now }
-        ensures { result ≡ list_any (is_unfollowed spec.now atom.now.pred atom.now.args truth (all_items (logs_in self.now))) (all_items (logs_in self.now)) }
-    {
-        let past = self.pasts(spec, atom, !truth);
-        self.is_set_past(spec, atom, truth, &past)
-    }
-
-    /// Whether some setter of this value isn't followed by any setter of the other.
-    fn prevails(&self, spec: &Specification, atom: &Atom, truth: bool) -> bool
-        requires { IsStore (length (logs_in self.now)) self.now }
-        ensures { result ≡ prevails spec.now atom.now.pred atom.now.args truth (all_items (logs_in self.now)) }
-    {
-        self.first_prevails(spec, atom, truth) || self.act_prevails(spec, atom, truth)
+        let place = atom_place(spec, atom);
+        let tags = self.tags.as_slice()[place];
+        let first = is_first(spec, atom.pred, winning);
+        let live = tags.is_live();
+        stands(first, tags.followed, live)
     }
 
     /// The truth of an atom in the state of all acts that were applied.
     pub fn truth(&self, spec: &Specification, atom: &Atom) -> bool
-        requires { IsStore (length (logs_in self.now)) self.now }
+        requires own { IsStore spec.now (length (logs_in self.now)) self.now }
+        requires fits { AtomFits spec.now atom.now }
         ensures { result ≡ state_truths spec.now self.now atom.now.pred atom.now.args }
     {
         let winning = winning_value(spec, atom.pred);
@@ -231,29 +195,38 @@ impl Store {
         }
     }
 
+    /// What was counted of a cell, where the logs are short.
+    fn sums_of(&self, spec: &Specification, cell: &Cell) -> Sums
+        requires own { IsStore spec.now (length (logs_in self.now)) self.now }
+        requires short { IsShort self.now }
+        requires fits { CellFits spec.now cell.now }
+        ensures raised { result.raised ≡ raised_by spec.now cell.now (all_items (logs_in self.now)) }
+        ensures lowered { result.lowered ≡ lowered_by spec.now cell.now (all_items (logs_in self.now)) }
+        ensures raised_small { result.raised ≤ 1073741824000000000 }
+        ensures lowered_small { result.lowered ≤ 1073741824000000000 }
+    {
+        self.sums.as_slice()[cell_place(spec, cell)]
+    }
+
     /// The value of a cell in the state of all acts that were applied: at most 2^62 in size, since
     /// no log is longer than so many acts can bear.
     pub fn value(&self, spec: &Specification, cell: &Cell) -> i64
         requires well_formed { IsWellFormed spec.now }
-        requires own { IsStore (length (logs_in self.now)) self.now }
+        requires own { IsStore spec.now (length (logs_in self.now)) self.now }
         requires short { IsShort self.now }
-        requires known { cell.now.num < length spec.now.nums }
+        requires fits { CellFits spec.now cell.now }
         ensures value { result ≡ value_of spec.now (items_in (cut_in self.now) (logs_in self.now)) cell.now }
         ensures upper { result ≤ℤ pos (2 ^ 62) }
         ensures lower { pos 0 ≤ℤ (result +ℤ pos (2 ^ 62)) }
     {
-        let mut raised = 0;
-        let mut lowered = 0;
-        for log in &self.logs {
-            raised += log_raises(spec, cell, log.as_slice());
-            lowered += log_lowers(spec, cell, log.as_slice());
-        }
-        value_from(spec, cell, raised, lowered)
+        let sums = self.sums_of(spec, cell);
+        value_from(spec, cell, sums.raised, sums.lowered)
     }
 
     /// The same items in a store of their own.
     pub fn copy(&self, alloc: Global) -> Result<Store, NoMemory>
-        ensures { IfOk result (λ s. (logs_in s ≡ logs_in self.now) × (cut_in s ≡ cut_in self.now)) }
+        ensures same { IfOk result (λ s. (logs_in s ≡ logs_in self.now) × (cut_in s ≡ cut_in self.now)) }
+        ensures own { (spec : Spec) (replicas : ℕ) → IsStore spec replicas self.now → IfOk result (IsStore spec replicas) }
     {
         let mut logs = Vec::new(alloc);
         for log in &self.logs {
@@ -262,6 +235,8 @@ impl Store {
         Ok(Store {
             logs,
             cut: self.cut,
+            tags: self.tags.copy(alloc)?,
+            sums: self.sums.copy(alloc)?,
         })
     }
 }

@@ -7,6 +7,8 @@ pub mod Listing
 pub mod Whole
 pub mod Terms
 pub mod Walks
+pub mod Visited
+pub mod Nexts
 pub mod Sums
 pub mod Untouched
 pub mod Needed

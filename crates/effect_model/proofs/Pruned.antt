@@ -1,8 +1,10 @@
 -- The first broken instance is looked for only where an effect may set an atom of the clause.
-use Rattle.std.proofs.Common.{◌≡◌, ℕ, zero, suc, ◌<◌, Bool, true, false, not, ◌&&◌, ◌||◌, List, [], ◌∷◌, ◌++◌, map, drop, length, get_or, is_some, if◌then◌else◌, refl, sym, ap, ◌∙◌, arith, Option, Some, None}
+use Rattle.std.proofs.Common.{◌≡◌, ◌⊎◌, inl, inr, ℕ, zero, suc, ◌+◌, ◌-◌, ◌<◌, ◌≤◌, max, subst, take, Bool, true, false, not, ◌&&◌, ◌||◌, List, [], ◌∷◌, ◌++◌, map, drop, length, get_or, is_some, if◌then◌else◌, refl, sym, ap, ◌∙◌, arith, Option, Some, None}
 use Rattle.std.specs.List.{list_any, find, slice_get}
 use Rattle.std.specs.Option.{option_map_or}
-use Rattle.std.proofs.lemmas.List.{get_or_append_left}
+use Rattle.std.proofs.lemmas.List.{drop_more, get_or_append_left, take_all}
+use Rattle.std.proofs.lemmas.Bool.{cases_lt}
+use Rattle.std.proofs.Math.Nat.{max-eq_left, max-eq_right}
 use Rattle.std.proofs.lemmas.List.Folds.{list_any-append}
 use Rattle.std.specs.Prelude.{◌==◌}
 use Rattle.std.proofs.lemmas.Option.{slice_get_within, get_or_from_slice_get}
@@ -113,3 +115,62 @@ find_none p f (t ∷ ts) none = rw (none t) (find_none p f ts none)
 pub none_broken : (spec : Spec) (inst : Inst) (s : Truths) (c : Clause) (front sizes : List ℕ) (lines : List Line) → lines ≡ (op_at spec inst.op).lines → clause_may inst lines front c ≡ false → None ≡ find (breaks_at spec inst s c) (tuples_behind front sizes)
 none_broken spec inst s c front sizes lines is e =
     sym (find_none (breaks_at spec inst s c) (λ xs. front ++ xs) (tuples sizes) (λ xs. clause_misses spec inst s c front xs (sym (ap (λ (ls : List Line). clause_may inst ls front c) is) ∙ e)))
+
+-- ---- the next element at which a line may
+
+get_longer : (front xs : List ℕ) (v y : ℕ) → slice_get front v ≡ Some y → slice_get (front ++ xs) v ≡ Some y
+get_longer [] xs v y e = absurd cc
+get_longer (z ∷ front) xs zero y e = e
+get_longer (z ∷ front) xs (suc v) y e = get_longer front xs v y e
+
+get_next : (front : List ℕ) (x : ℕ) → slice_get (front ++ x ∷ []) (length front) ≡ Some x
+get_next [] x = refl
+get_next (y ∷ front) x = get_next front x
+
+-- a term that doesn't have the next variable's element
+pub next_lacks : (has : ℕ → ℕ → Bool) (front : List ℕ) (x : ℕ) (t : Term) (v : ℕ) → v ≡ length front → term_has has t x ≡ false → term_may has (front ++ x ∷ []) t v ≡ false
+unfolding term_may
+next_lacks has front x t v is e = ap (λ n. option_map_or (term_has has t) (slice_get (front ++ x ∷ []) n) true) is ∙ ap (λ o. option_map_or (term_has has t) o true) (get_next front x) ∙ e
+
+-- what fails at some elements fails at more
+term_longer : (has : ℕ → ℕ → Bool) (front xs : List ℕ) (t : Term) (v : ℕ) → term_may has front t v ≡ false → term_may has (front ++ xs) t v ≡ false
+unfolding term_may
+term_longer has front xs t v e = by_element (slice_get front v) refl e
+  where
+    by_element : (o : Option ℕ) → slice_get front v ≡ o → option_map_or (term_has has t) o true ≡ false → option_map_or (term_has has t) (slice_get (front ++ xs) v) true ≡ false
+    by_element None is e = absurd cc
+    by_element (Some x) is e = ap (λ o. option_map_or (term_has has t) o true) (get_longer front xs v x is) ∙ e
+
+pub terms_longer : (has : ℕ → ℕ → Bool) (front xs : List ℕ) (terms : List Term) (vars : List ℕ) → terms_may has front terms vars ≡ false → terms_may has (front ++ xs) terms vars ≡ false
+terms_longer has front xs [] [] e = absurd cc
+terms_longer has front xs [] (v ∷ vars) e = refl
+terms_longer has front xs (t ∷ terms) [] e = refl
+terms_longer has front xs (t ∷ terms) (v ∷ vars) e =
+    both_fail (term_may has front t v) (terms_may has front terms vars) (term_may has (front ++ xs) t v) (terms_may has (front ++ xs) terms vars) (term_longer has front xs t v) (terms_longer has front xs terms vars) e
+
+-- one more term with its variable
+step : (has : ℕ → ℕ → Bool) (front : List ℕ) (terms : List Term) (i : ℕ) (d : Term) (left : List ℕ) → i < length terms → 1 ≤ length left
+    → terms_may has front (drop i terms) left ≡ (term_may has front (get_or terms i d) (get_or left 0 0) && terms_may has front (drop (i + 1) terms) (take (length left - 1) (drop 1 left)))
+step has front terms i d [] lt some = absurd (omega (arith, some))
+step has front terms i d (v ∷ vars) lt some =
+    let rest : take (length (v ∷ vars) - 1) vars ≡ vars = take_all (length (v ∷ vars) - 1) vars (omega arith) in
+    ap (λ ts. terms_may has front ts (v ∷ vars)) (drop_more terms i d lt) ∙ ap (λ vs. term_may has front (get_or terms i d) v && terms_may has front (drop (i + 1) terms) vs) (sym rest)
+
+pub rest_fails : (has : ℕ → ℕ → Bool) (front : List ℕ) (terms : List Term) (i : ℕ) (d : Term) (left : List ℕ) → i < length terms → 1 ≤ length left → terms_may has front (drop (i + 1) terms) (take (length left - 1) (drop 1 left)) ≡ false → terms_may has front (drop i terms) left ≡ false
+rest_fails has front terms i d left lt some e =
+    step has front terms i d left lt some ∙ second_fails (term_may has front (get_or terms i d) (get_or left 0 0)) (terms_may has front (drop (i + 1) terms) (take (length left - 1) (drop 1 left))) e
+  where
+    second_fails : (a b : Bool) → b ≡ false → (a && b) ≡ false
+    second_fails true b e = e
+    second_fails false b e = refl
+
+pub term_fails : (has : ℕ → ℕ → Bool) (front : List ℕ) (terms : List Term) (i : ℕ) (d : Term) (left : List ℕ) → i < length terms → 1 ≤ length left → term_may has front (get_or terms i d) (get_or left 0 0) ≡ false → terms_may has front (drop i terms) left ≡ false
+term_fails has front terms i d left lt some e =
+    step has front terms i d left lt some ∙ ap (λ b. b && terms_may has front (drop (i + 1) terms) (take (length left - 1) (drop 1 left))) e
+
+-- a number below the greater of two
+pub below_max : (a b x : ℕ) → x < max a b → (x < a) ⊎ (x < b)
+below_max a b x lt = elim (cases_lt a b) [
+  | inl less ↦ inr (subst (λ m. x < m) (max-eq_right (omega (arith, less))) lt)
+  | inr more ↦ inl (subst (λ m. x < m) (max-eq_left more) lt)
+]

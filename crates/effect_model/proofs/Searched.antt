@@ -6,9 +6,16 @@ use Rattle.std.proofs.lemmas.List.{append-nil, map-append}
 use Rattle.std.proofs.lemmas.List.Folds.{find-append}
 use Rattle.std.proofs.lemmas.List.Concat.{flat_map-append}
 use Rattle.std.proofs.lemmas.Bool.{cases_lt}
-use Rattle.spec_model.specs.Truths.{Within}
+use Rattle.spec_model.specs.declared.clause.Clause.{Clause}
+use Rattle.spec_model.specs.declared.instance.Inst.{Inst}
+use Rattle.spec_model.specs.declared.operation.Line.{Line}
+use Rattle.spec_model.specs.declared.spec.Spec.{Spec}
+use Rattle.spec_model.specs.Breaks.{breaks_at}
+use Rattle.spec_model.specs.Truths.{Truths, Within, op_at}
 use Rattle.spec_model.specs.Universe.{below, tuples}
-use Rattle.effect_model.specs.Pruning.{tuples_behind}
+use Rattle.effect_model.specs.Pruning.{clause_may, tuples_behind}
+use Rattle.effect_model.proofs.Pruned.{none_broken}
+use Rattle.effect_model.proofs.Walks.{gap}
 
 -- the tuples that begin with a number below x
 abbrev pub tuples_upto : List ℕ → List ℕ → ℕ → List (List ℕ)
@@ -54,6 +61,33 @@ none_more p front others longer x found is before now none =
     is_none : (o : Option (List ℕ)) → is_some o ≡ false → o ≡ None
     is_none None e = refl
     is_none (Some x) e = absurd cc
+
+-- none that begins with an element from one on up to another
+none_over : (p : List ℕ → Bool) (front others : List ℕ) (from more : ℕ) → ((x : ℕ) → from ≤ x → x < from + more → find p (tuples_behind (front ++ x ∷ []) others) ≡ None) → find p (tuples_upto front others from) ≡ None → find p (tuples_upto front others (from + more)) ≡ None
+none_over p front others from zero none before = let e : from ≡ from + 0 = omega arith in subst (λ n. find p (tuples_upto front others n) ≡ None) e before
+none_over p front others from (suc more) none before =
+    let x = from + more in
+    let e : x + 1 ≡ from + suc more = omega arith in
+    let here = none x (omega arith) (omega arith) in
+    subst (λ n. find p (tuples_upto front others n) ≡ None) e (none_more p front others (front ++ x ∷ []) x None refl (none_over p front others from more (λ y le lt. none y le (omega (arith, lt))) before) (sym here) refl)
+
+none_to : (p : List ℕ → Bool) (front others : List ℕ) (from to : ℕ) → from ≤ to → ((x : ℕ) → from ≤ x → x < to → find p (tuples_behind (front ++ x ∷ []) others) ≡ None) → find p (tuples_upto front others from) ≡ None → find p (tuples_upto front others to) ≡ None
+none_to p front others from to le none before =
+    let g = gap from to le in
+    subst (λ n. find p (tuples_upto front others n) ≡ None) (sym g.1) (none_over p front others from g.0 (λ x ge lt. none x ge (omega (arith, lt, g.1))) before)
+
+-- none where no line may set an atom of the clause
+pub none_until : (spec : Spec) (inst : Inst) (s : Truths) (c : Clause) (front others : List ℕ) (lines : List Line) (from next to : ℕ) → lines ≡ (op_at spec inst.op).lines → ((x : ℕ) → from ≤ x → x < next → clause_may inst lines (front ++ x ∷ []) c ≡ false) → from ≤ to → to ≤ next
+    → find (breaks_at spec inst s c) (tuples_upto front others from) ≡ None → find (breaks_at spec inst s c) (tuples_upto front others to) ≡ None
+none_until spec inst s c front others lines from next to are unset le past before =
+    none_to (breaks_at spec inst s c) front others from to le (λ x ge lt. sym (none_broken spec inst s c (front ++ x ∷ []) others lines are (unset x ge (omega (arith, lt, past))))) before
+
+-- none below all elements that there are
+pub none_below : (p : List ℕ → Bool) (front sizes first others : List ℕ) (x d : ℕ) → ((length sizes ≡ 0) → ⊥) → first ≡ take 1 sizes → others ≡ drop 1 sizes → x ≡ get_or first 0 d → find p (tuples_upto front others x) ≡ None → None ≡ find p (tuples_behind front sizes)
+none_below p front [] first others x d some f r is before = absurd (some refl)
+none_below p front (n ∷ sizes) first others x d some f r is before =
+    let same : x ≡ n = is ∙ ap (λ (xs : List ℕ). get_or xs 0 d) f in
+    sym (ap (λ (os : List ℕ). find p (tuples_upto front os n)) (sym r) ∙ ap (λ m. find p (tuples_upto front others m)) (sym same) ∙ before)
 
 -- none of those so far, and one that begins with the next element
 pub found_more : (p : List ℕ → Bool) (front sizes first others longer : List ℕ) (x d : ℕ) (found : Option (List ℕ)) → ((length sizes ≡ 0) → ⊥) → first ≡ take 1 sizes → others ≡ drop 1 sizes → x < get_or first 0 d → longer ≡ front ++ x ∷ [] → find p (tuples_upto front others x) ≡ None → found ≡ find p (tuples_behind longer others)

@@ -50,7 +50,7 @@ line_unset inst p front xs (Clear q terms) e = not_then _ (Some false) None (and
 line_unset inst p front xs (Add n params amount) e = refl
 line_unset inst p front xs (Sub n params amount) e = refl
 
-lines_unset : (inst : Inst) (p : ℕ) (front xs : List ℕ) (lines : List Line) → list_any (line_may_set inst p front) lines ≡ false → lines_set (inst_has inst) lines p (front ++ xs) ≡ None
+pub lines_unset : (inst : Inst) (p : ℕ) (front xs : List ℕ) (lines : List Line) → list_any (line_may_set inst p front) lines ≡ false → lines_set (inst_has inst) lines p (front ++ xs) ≡ None
 lines_unset inst p front xs [] e = refl
 lines_unset inst p front xs (l ∷ lines) e =
     let here = line_unset inst p front xs l (none_left (line_may_set inst p front l) (list_any (line_may_set inst p front) lines) e) in
@@ -72,7 +72,7 @@ line_same inst n front xs (Add m params amount) e =
 line_same inst n front xs (Sub m params amount) e =
     (refl, not_then _ amount 0 (and_fails (m == n) (begins_with (elements_at inst.args params) front) (equal_numbers (elements_at inst.args params) (front ++ xs)) (unequal (elements_at inst.args params) front xs) e))
 
-lines_same : (inst : Inst) (n : ℕ) (front xs : List ℕ) (lines : List Line) → list_any (line_may_change inst n front) lines ≡ false
+pub lines_same : (inst : Inst) (n : ℕ) (front xs : List ℕ) (lines : List Line) → list_any (line_may_change inst n front) lines ≡ false
     → (sum_by (line_adds inst (cell_at n (front ++ xs))) lines ≡ 0) × (sum_by (line_subtracts inst (cell_at n (front ++ xs))) lines ≡ 0)
 lines_same inst n front xs [] e = (refl, refl)
 lines_same inst n front xs (l ∷ lines) e =

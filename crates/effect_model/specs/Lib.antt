@@ -15,3 +15,4 @@ pub mod Laying
 pub mod Masking
 pub mod Plain
 pub mod Rights
+pub mod Visits

@@ -11,7 +11,7 @@ ghost use Rattle.effect_model.specs.Places.{KnowsAll};
 ghost use Rattle.effect_model.specs.Pruning.{ClauseStands, LiteralStands, StandsBehind, tuples_behind};
 
 use crate::layout::size_of;
-use crate::pruning::clause_may;
+use crate::pruning::next_broken;
 use crate::touching::lines_of;
 use crate::truth::{Laid, Truth};
 use ind_base::{Args, NoMemory};
@@ -136,10 +136,6 @@ fn find_broken<T: Truth>(
     requires stands { StandsBehind laid.now.spec.now clause.now front sizes.now }
     ensures { result ≡ find (falsifies T.truths laid.now clause.now) (tuples_behind front sizes.now) }
 {
-    let lines = lines_of(laid.spec, laid.inst);
-    if !clause_may(laid.inst, lines, front.as_slice(), clause) {
-        return None;
-    }
     if sizes.is_empty() {
         return if breaks_here(laid, clause, front.as_slice()) {
             Some(front)
@@ -147,14 +143,22 @@ fn find_broken<T: Truth>(
             None
         };
     }
+    let lines = lines_of(laid.spec, laid.inst);
     let (first, others) = sizes.split_at(1);
-    for x in 0..first[0] {
+    let size = first[0];
+    let mut x = 0;
+    for _turn in 0..size {
+        let next = next_broken(laid.inst, lines, clause, front.as_slice(), x);
+        if next >= size {
+            return None;
+        }
         let mut longer = front;
-        longer.push(x);
+        longer.push(next);
         let found = find_broken(laid, clause, longer, others);
         if found.is_some() {
             return found;
         }
+        x = next + 1;
     }
     None
 }

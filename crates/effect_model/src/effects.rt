@@ -13,7 +13,8 @@ ghost use Rattle.effect_model.specs.Turns.{atoms_set_by, cells_changed_by};
 
 use crate::change::{AtomChange, CellChange, Change};
 use crate::layout::sort_sizes;
-use crate::touching::{lines_add, lines_of, lines_set, lines_subtract, may_change, may_set};
+use crate::next::{next_changed, next_set};
+use crate::touching::{lines_add, lines_of, lines_set, lines_subtract};
 use crate::walk::{Listing, walk};
 use ind_base::{Args, List, NoMemory};
 use spec_model::{Atom, Cell, Inst, Line, Spec};
@@ -34,8 +35,8 @@ impl Listing for Setting<'_> {
 
     ghost listed = { λ s xs. atoms_set_by s.inst.now s.lines.now s.pred xs };
 
-    fn goes_on(&self, front: &[u32]) -> bool {
-        may_set(self.inst, self.lines, self.pred, front)
+    fn next(&self, front: &[u32], from: u32) -> u32 {
+        next_set(self.inst, self.lines, self.pred, front, from)
     }
 
     fn list(&self, args: &Args, out: &mut List<AtomChange>) -> Result<(), NoMemory> {
@@ -74,8 +75,8 @@ impl Listing for Changing<'_> {
 
     ghost listed = { λ s xs. cells_changed_by s.inst.now s.lines.now s.num xs };
 
-    fn goes_on(&self, front: &[u32]) -> bool {
-        may_change(self.inst, self.lines, self.num, front)
+    fn next(&self, front: &[u32], from: u32) -> u32 {
+        next_changed(self.inst, self.lines, self.num, front, from)
     }
 
     fn list(&self, args: &Args, out: &mut List<CellChange>) -> Result<(), NoMemory> {

@@ -9,7 +9,8 @@ ghost use Rattle.effect_model.specs.Touching.{AreSmall};
 ghost use Rattle.effect_model.specs.Turns as turns;
 
 use crate::layout::sort_sizes;
-use crate::touching::{lines_add, lines_of, lines_subtract, may_change};
+use crate::next::next_changed;
+use crate::touching::{lines_add, lines_of, lines_subtract};
 use crate::walk::{Listing, walk};
 use ind_base::{Args, List, NoMemory};
 use spec_model::{Amount, Cell, Inst, Line, Need, Right, Spec};
@@ -55,8 +56,8 @@ impl Listing for Needing<'_> {
 
     ghost listed = { λ s xs. turns.cell_needs s.inst.now s.lines.now s.low s.high (record { num = s.num; args = xs }) };
 
-    fn goes_on(&self, front: &[u32]) -> bool {
-        may_change(self.inst, self.lines, self.num, front)
+    fn next(&self, front: &[u32], from: u32) -> u32 {
+        next_changed(self.inst, self.lines, self.num, front, from)
     }
 
     fn list(&self, args: &Args, out: &mut List<Need>) -> Result<(), NoMemory> {

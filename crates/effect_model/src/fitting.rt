@@ -5,10 +5,10 @@ ghost use Rattle.spec_model.specs.Fits.{InstFits};
 ghost use Rattle.spec_model.specs.Truths as truths;
 ghost use Rattle.spec_model.specs.Truths.{Within};
 ghost use Rattle.effect_model.specs.Fitting as fitting;
-ghost use Rattle.effect_model.specs.Places.{CellFits};
+ghost use Rattle.effect_model.specs.Places.{AtomFits, CellFits};
 
 use crate::layout::size_of;
-use spec_model::{Cell, Inst, Span, Spec, Var};
+use spec_model::{Atom, Cell, Inst, Span, Spec, Var};
 
 /// Whether an argument fits its parameter.
 #[tactic(auto, unfolding(crate::specs::Fitting::arg_fits))]
@@ -66,6 +66,16 @@ fn are_elements(spec: &Spec, sorts: &[u32], args: &[u32]) -> bool
         left = rest;
     }
     left.is_empty()
+}
+
+/// Whether an atom is one of the universe: a declared predicate at elements of its sorts.
+pub fn atom_fits(spec: &Spec, atom: &Atom) -> bool
+    ensures { IsTrue result ↔ AtomFits spec.now atom.now }
+{
+    match spec.preds.get(atom.pred as usize) {
+        Some(pred) => are_elements(spec, pred.sorts.as_slice(), atom.args.as_slice()),
+        None => false,
+    }
 }
 
 /// Whether a cell is one of the universe: a declared number at elements of its sorts.

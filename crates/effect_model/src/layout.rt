@@ -75,7 +75,7 @@ pub(crate) fn count_all<D: Declared>(spec: &Spec, declared: &[D]) -> usize
 }
 
 /// How many elements each of these sorts has.
-pub(crate) fn sort_sizes(spec: &Spec, sorts: &[u32]) -> Args
+pub fn sort_sizes(spec: &Spec, sorts: &[u32]) -> Args
     requires { length sorts.now ≤ 4 }
     ensures { result ≡ sizes_of spec.now sorts.now }
 {

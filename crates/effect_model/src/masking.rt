@@ -10,7 +10,7 @@ ghost use Rattle.effect_model.specs.Masking.{IsShort, MayMask, wanted_needs, wan
 ghost use Rattle.effect_model.specs.Pruning.{ClauseStands, LiteralStands};
 
 use crate::breaking::{element, values, var_sizes};
-use crate::pruning::clause_may;
+use crate::pruning::next_broken;
 use crate::touching::lines_of;
 use crate::truth::{Laid, Truth};
 use crate::walk::{Listing, walk};
@@ -255,9 +255,9 @@ impl<T: Truth> Listing for Masking<'_, '_, T> {
 
     ghost listed = { λ s xs. wanted_needs s.wanted s.laid.now.spec.now s.laid.now.inst.now (T.truths s.laid.now.state.now) s.at s.clause.now xs };
 
-    fn goes_on(&self, front: &[u32]) -> bool {
+    fn next(&self, front: &[u32], from: u32) -> u32 {
         let lines = lines_of(self.laid.spec, self.laid.inst);
-        clause_may(self.laid.inst, lines, front, self.clause)
+        next_broken(self.laid.inst, lines, self.clause, front, from)
     }
 
     fn list(&self, args: &Args, out: &mut List<Need>) -> Result<(), NoMemory> {

@@ -1,10 +1,12 @@
-//! Whether an effect may set an atom of a clause, by the first elements of its variables.
+//! The next element at which an effect may set an atom of a clause, by the first elements of its
+//! variables.
 
-ghost use Rattle.std.specs.Prelude.{◌≡◌};
+ghost use Rattle.std.specs.Prelude.{◌≡◌, ◌<◌, ◌≤◌, ◌++◌, ◌∷◌, [], ℕ, false};
 ghost use Rattle.std.specs.List.{list_any};
 ghost use Rattle.spec_model.specs.Truths.{inst_has};
 ghost use Rattle.effect_model.specs.Pruning as pruning;
 
+use crate::next::term_next;
 use crate::touching::term_has;
 use spec_model::{Clause, Inst, Line, Literal, Term};
 
@@ -36,53 +38,124 @@ fn terms_may(inst: &Inst, front: &[u32], terms: &[Term], vars: &[u32]) -> bool
     left.is_empty()
 }
 
-/// Whether a line may set a predicate at these variables.
-fn line_may(inst: &Inst, front: &[u32], pred: u32, vars: &[u32], line: &Line) -> bool
-    ensures { result ≡ pruning.line_may inst.now front.now pred vars.now line.now }
-{
-    match line {
-        Line::Set { pred: of, terms } => {
-            pred == *of && terms_may(inst, front, terms.as_slice(), vars)
+/// What is done where the first variables have these elements.
+#[derive(Clone, Copy)]
+struct Seeking<'a> {
+    inst: &'a Inst,
+    lines: &'a [Line],
+    front: &'a [u32],
+}
+
+impl Seeking<'_> {
+    /// The first element, from this one on, that a term has, where its variable is the next one.
+    #[tactic(auto, using(crate::proofs::Pruned::next_lacks))]
+    fn var_next(&self, term: &Term, var: u32, from: u32) -> u32
+        ensures later { from ≤ result }
+        ensures untouched { (x : ℕ) → from ≤ x → x < result → pruning.term_may (inst_has self.now.inst.now) (self.now.front.now ++ x ∷ []) term.now var ≡ false }
+    {
+        if var as usize == self.front.len() {
+            term_next(self.inst, term, from)
+        } else {
+            from
         }
-        Line::Clear { pred: of, terms } => {
-            pred == *of && terms_may(inst, front, terms.as_slice(), vars)
+    }
+
+    /// The first element, from this one on, that all terms over the next variable have.
+    fn vars_next(&self, terms: &[Term], vars: &[u32], from: u32) -> u32
+        ensures later { from ≤ result }
+        ensures untouched { (x : ℕ) → from ≤ x → x < result → pruning.terms_may (inst_has self.now.inst.now) (self.now.front.now ++ x ∷ []) terms.now vars.now ≡ false }
+    {
+        let mut next = from;
+        let mut left = vars;
+        for term in terms {
+            let [var, rest @ ..] = left else {
+                return u32::MAX;
+            };
+            next = next.max(self.var_next(term, *var, from));
+            left = rest;
         }
-        _ => false,
+        next
+    }
+
+    /// The first element, from this one on, with which terms may touch an atom at these variables.
+    fn terms_next(&self, terms: &[Term], vars: &[u32], from: u32) -> u32
+        ensures later { from ≤ result }
+        ensures untouched { (x : ℕ) → from ≤ x → x < result → pruning.terms_may (inst_has self.now.inst.now) (self.now.front.now ++ x ∷ []) terms.now vars.now ≡ false }
+    {
+        if terms_may(self.inst, self.front, terms, vars) {
+            self.vars_next(terms, vars, from)
+        } else {
+            u32::MAX
+        }
+    }
+
+    /// The first element, from this one on, with which a line may set a predicate at these variables.
+    fn line_next(&self, pred: u32, vars: &[u32], line: &Line, from: u32) -> u32
+        ensures later { from ≤ result }
+        ensures untouched { (x : ℕ) → from ≤ x → x < result → pruning.line_may self.now.inst.now (self.now.front.now ++ x ∷ []) pred vars.now line.now ≡ false }
+    {
+        match line {
+            Line::Set { pred: of, terms } | Line::Clear { pred: of, terms } => {
+                if pred == *of {
+                    self.terms_next(terms.as_slice(), vars, from)
+                } else {
+                    u32::MAX
+                }
+            }
+            _ => u32::MAX,
+        }
+    }
+
+    /// The first element, from this one on, with which some line may set a predicate at these variables.
+    fn lines_next(&self, pred: u32, vars: &[u32], from: u32) -> u32
+        ensures later { from ≤ result }
+        ensures untouched { (x : ℕ) → from ≤ x → x < result → list_any (pruning.line_may self.now.inst.now (self.now.front.now ++ x ∷ []) pred vars.now) self.now.lines.now ≡ false }
+    {
+        let mut next = u32::MAX;
+        for line in self.lines {
+            next = next.min(self.line_next(pred, vars, line, from));
+        }
+        next
+    }
+
+    /// The first element, from this one on, with which some line may set the atom of a literal.
+    fn literal_next(&self, literal: &Literal, from: u32) -> u32
+        ensures later { from ≤ result }
+        ensures untouched { (x : ℕ) → from ≤ x → x < result → pruning.literal_may self.now.inst.now self.now.lines.now (self.now.front.now ++ x ∷ []) literal.now ≡ false }
+    {
+        match literal {
+            Literal::Atom { pred, vars } => self.lines_next(*pred, vars.as_slice(), from),
+            Literal::Equal { .. } => u32::MAX,
+        }
+    }
+
+    /// The first element, from this one on, with which some line may set the atom of one of these literals.
+    fn literals_next(&self, literals: &[Literal], from: u32) -> u32
+        ensures later { from ≤ result }
+        ensures untouched { (x : ℕ) → from ≤ x → x < result → list_any (pruning.literal_may self.now.inst.now self.now.lines.now (self.now.front.now ++ x ∷ [])) literals.now ≡ false }
+    {
+        let mut next = u32::MAX;
+        for literal in literals {
+            next = next.min(self.literal_next(literal, from));
+        }
+        next
     }
 }
 
-/// Whether some line may set a predicate at these variables.
-fn any_line_may(inst: &Inst, lines: &[Line], front: &[u32], pred: u32, vars: &[u32]) -> bool
-    ensures { result ≡ list_any (pruning.line_may inst.now front.now pred vars.now) lines.now }
+/// The first element, from this one on, such that some line may set an atom of the clause where its
+/// variables have these first elements and then that one.
+pub(crate) fn next_broken(
+    inst: &Inst,
+    lines: &[Line],
+    clause: &Clause,
+    front: &[u32],
+    from: u32,
+) -> u32
+    ensures later { from ≤ result }
+    ensures untouched { (x : ℕ) → from ≤ x → x < result → pruning.clause_may inst.now lines.now (front.now ++ x ∷ []) clause.now ≡ false }
 {
-    lines
-        .iter()
-        .any(|line| line_may(inst, front, pred, vars, line))
-}
-
-/// Whether some line may set the atom of a literal.
-fn literal_may(inst: &Inst, lines: &[Line], front: &[u32], literal: &Literal) -> bool
-    ensures { result ≡ pruning.literal_may inst.now lines.now front.now literal.now }
-{
-    match literal {
-        Literal::Atom { pred, vars } => any_line_may(inst, lines, front, *pred, vars.as_slice()),
-        Literal::Equal { .. } => false,
-    }
-}
-
-/// Whether some line may set the atom of one of these literals.
-fn any_may(inst: &Inst, lines: &[Line], front: &[u32], literals: &[Literal]) -> bool
-    ensures { result ≡ list_any (pruning.literal_may inst.now lines.now front.now) literals.now }
-{
-    literals
-        .iter()
-        .any(|literal| literal_may(inst, lines, front, literal))
-}
-
-/// Whether some line may set an atom of the clause where its first variables have these elements.
-pub(crate) fn clause_may(inst: &Inst, lines: &[Line], front: &[u32], clause: &Clause) -> bool
-    ensures { result ≡ pruning.clause_may inst.now lines.now front.now clause.now }
-{
-    any_may(inst, lines, front, clause.premise.as_slice())
-        || any_may(inst, lines, front, clause.conclusion.as_slice())
+    let seeking = Seeking { inst, lines, front };
+    let premise = seeking.literals_next(clause.premise.as_slice(), from);
+    let conclusion = seeking.literals_next(clause.conclusion.as_slice(), from);
+    premise.min(conclusion)
 }

@@ -62,8 +62,8 @@ impl Listing for Ranging {
 
     ghost listed = { λ r xs. rights.right_at r.family r.of xs ∷ [] };
 
-    fn goes_on(&self, _front: &[u32]) -> bool {
-        true
+    fn next(&self, _front: &[u32], from: u32) -> u32 {
+        from
     }
 
     fn list(&self, args: &Args, out: &mut List<Right>) -> Result<(), NoMemory> {
@@ -184,8 +184,8 @@ impl Listing for Entries<'_> {
 
     ghost listed = { λ e xs. rights.entries_of e.of e.clause.now xs };
 
-    fn goes_on(&self, _front: &[u32]) -> bool {
-        true
+    fn next(&self, _front: &[u32], from: u32) -> u32 {
+        from
     }
 
     fn list(&self, args: &Args, out: &mut List<Right>) -> Result<(), NoMemory> {

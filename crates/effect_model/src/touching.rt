@@ -2,7 +2,6 @@
 
 ghost use Rattle.std.specs.Prelude.{◌≡◌, ◌<◌, ◌≤◌, length, sum_by, slice_get};
 ghost use Rattle.std.specs.Option.{option_map_or};
-ghost use Rattle.std.specs.List.{list_any};
 ghost use Rattle.std.specs.Str.{bytes_eq as equal_numbers};
 ghost use Rattle.spec_model.specs.Truths as truths;
 ghost use Rattle.spec_model.specs.Truths.{inst_has};
@@ -12,7 +11,7 @@ ghost use Rattle.effect_model.specs.Touching as touching;
 use spec_model::{Args, Cell, Inst, Line, Spec, Term};
 
 /// The effect lines of an instance's operation, if it is declared.
-pub(crate) fn lines_of<'a>(spec: &'a Spec, inst: &Inst) -> &'a [Line]
+pub fn lines_of<'a>(spec: &'a Spec, inst: &Inst) -> &'a [Line]
     ensures { result.now ≡ (truths.op_at spec.now inst.now.op).lines }
 {
     match spec.ops.get(inst.op as usize) {
@@ -59,7 +58,7 @@ fn terms_touch(inst: &Inst, terms: &[Term], args: &[u32]) -> bool
 }
 
 /// Whether the first terms have these elements.
-fn terms_begin(inst: &Inst, terms: &[Term], front: &[u32]) -> bool
+pub(crate) fn terms_begin(inst: &Inst, terms: &[Term], front: &[u32]) -> bool
     ensures { result ≡ touching.terms_begin (inst_has inst.now) terms.now front.now }
 {
     let mut left = terms;
@@ -106,30 +105,6 @@ pub(crate) fn lines_set(inst: &Inst, lines: &[Line], pred: u32, args: &[u32]) ->
     found
 }
 
-/// Whether a line sets the predicate somewhere behind these first elements.
-fn line_may_set(inst: &Inst, line: &Line, pred: u32, front: &[u32]) -> bool
-    ensures { result ≡ touching.line_may_set inst.now pred front.now line.now }
-{
-    match line {
-        Line::Set { pred: of, terms } => {
-            pred == *of && terms_begin(inst, terms.as_slice(), front)
-        }
-        Line::Clear { pred: of, terms } => {
-            pred == *of && terms_begin(inst, terms.as_slice(), front)
-        }
-        _ => false,
-    }
-}
-
-/// Whether some line sets the predicate somewhere behind these first elements.
-pub(crate) fn may_set(inst: &Inst, lines: &[Line], pred: u32, front: &[u32]) -> bool
-    ensures { result ≡ list_any (touching.line_may_set inst.now pred front.now) lines.now }
-{
-    lines
-        .iter()
-        .any(|line| line_may_set(inst, line, pred, front))
-}
-
 /// The first element of an argument.
 pub(crate) fn first_of(inst: &Inst, place: u32) -> u32
     ensures { result ≡ option_map_or (λ s. s.lo) (slice_get inst.now.args place) 0 }
@@ -141,7 +116,7 @@ pub(crate) fn first_of(inst: &Inst, place: u32) -> u32
 }
 
 /// The elements of these parameters.
-fn elements_at(inst: &Inst, params: &Args) -> Args
+pub(crate) fn elements_at(inst: &Inst, params: &Args) -> Args
     ensures { result ≡ changes.elements_at inst.now.args params.now }
 {
     let mut elements = Args::new();
@@ -167,7 +142,7 @@ fn same_numbers(a: &[u32], b: &[u32]) -> bool
 }
 
 /// Whether the numbers begin with these.
-fn begins_with(numbers: &[u32], front: &[u32]) -> bool
+pub(crate) fn begins_with(numbers: &[u32], front: &[u32]) -> bool
     ensures { result ≡ touching.begins_with numbers.now front.now }
 {
     let mut left = numbers;
@@ -243,35 +218,4 @@ pub(crate) fn lines_subtract(inst: &Inst, lines: &[Line], cell: &Cell) -> u64
         all += line_subtracts(inst, line, cell);
     }
     all
-}
-
-/// Whether a line changes the number somewhere behind these first elements.
-fn line_may_change(inst: &Inst, line: &Line, num: u32, front: &[u32]) -> bool
-    ensures { result ≡ touching.line_may_change inst.now num front.now line.now }
-{
-    match line {
-        Line::Add {
-            num: of,
-            params,
-            ..
-        }
-        | Line::Sub {
-            num: of,
-            params,
-            ..
-        } => {
-            let elements = elements_at(inst, params);
-            *of == num && begins_with(elements.as_slice(), front)
-        }
-        _ => false,
-    }
-}
-
-/// Whether some line changes the number somewhere behind these first elements.
-pub(crate) fn may_change(inst: &Inst, lines: &[Line], num: u32, front: &[u32]) -> bool
-    ensures { result ≡ list_any (touching.line_may_change inst.now num front.now) lines.now }
-{
-    lines
-        .iter()
-        .any(|line| line_may_change(inst, line, num, front))
 }

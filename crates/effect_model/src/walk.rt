@@ -1,6 +1,6 @@
 //! A walk over the tuples at which something is listed, in lexicographic order.
 
-ghost use Rattle.std.specs.Prelude.{◌≡◌, ◌≤◌, ◌+◌, ◌++◌, [], false, length, List as Numbers, ℕ, OnOk};
+ghost use Rattle.std.specs.Prelude.{◌≡◌, ◌≤◌, ◌<◌, ◌+◌, ◌++◌, ◌∷◌, [], length, List as Numbers, ℕ, OnOk};
 ghost use Rattle.std.specs.List.{flat_map};
 ghost use Rattle.spec_model.specs.Truths.{Within};
 ghost use Rattle.spec_model.specs.Universe.{tuples};
@@ -15,9 +15,10 @@ pub(crate) trait Listing {
 
     ghost listed: { Self → Numbers ℕ → Numbers Self.Item };
 
-    /// Whether the tuples that begin with these elements have to be looked at.
-    fn goes_on(&self, front: &[u32]) -> bool
-        ensures { result ≡ false → (behind : Numbers ℕ) → listed self.now (front.now ++ behind) ≡ [] };
+    /// The first element, from this one on, behind which tuples have to be looked at.
+    fn next(&self, front: &[u32], from: u32) -> u32
+        ensures later { from ≤ result }
+        ensures untouched { (x : ℕ) → from ≤ x → x < result → (behind : Numbers ℕ) → listed self.now (front.now ++ x ∷ behind) ≡ [] };
 
     /// Appends what is listed of one tuple.
     fn list(&self, args: &Args, out: &mut List<Self::Item>) -> Result<(), NoMemory>
@@ -40,12 +41,17 @@ pub(crate) fn walk<L: Listing>(
         return listing.list(&front, out);
     }
     let (first, others) = sizes.split_at(1);
-    for x in 0..first[0] {
-        let mut longer = front;
-        longer.push(x);
-        if listing.goes_on(longer.as_slice()) {
-            walk(listing, longer, others, out)?;
+    let size = first[0];
+    let mut x = 0;
+    for _turn in 0..size {
+        let next = listing.next(front.as_slice(), x);
+        if next >= size {
+            return Ok(());
         }
+        let mut longer = front;
+        longer.push(next);
+        walk(listing, longer, others, out)?;
+        x = next + 1;
     }
     Ok(())
 }

@@ -77,7 +77,7 @@ pub record IsFirst (setup : Setup) (me : ℕ) (r : Replica) : Type 0 where
   pub within : me < setup.replicas
   pub few : setup.replicas ≤ 16
   pub setup_fits : SetupFits setup
-  pub store : IsStore setup.replicas r.store
+  pub store : IsStore setup.spec setup.replicas r.store
   pub empty : known_to r ≡ replicate setup.replicas []
   pub table : (logs : Logs) (among : Right → Bool) → IsTable setup logs me [] among r.table
   pub wants : r.wants ≡ []

@@ -4,6 +4,7 @@ use Rattle.std.specs.Prelude.{slice_index, slice_set}
 use Rattle.std.specs.List.{AllByRecursion}
 use Rattle.std.proofs.lemmas.List.{get_or-set_same, length_push}
 use Rattle.spec_model.specs.declared.plan.Setup.{Setup}
+use Rattle.spec_model.specs.declared.spec.Spec.{Spec}
 use Rattle.spec_model.specs.declared.log.Body.{Body}
 use Rattle.spec_model.specs.declared.log.LogItem.{LogItem}
 use Rattle.run_model.specs.Logs.{Logs, log_at}
@@ -74,21 +75,21 @@ pub logged_nothing : (setup : Setup) (r : Replica) → IsReplica setup r.me r �
 logged_nothing setup r own = record { own = own; stands = λ stamp sendings kept. refl; knows = sym (set_back (known_to r) r.me) }
 
 -- nothing is learned at first
-pub learned_nothing : (r : Replica) → IsStore (length (known_to r)) r.store → HasLearned [] r r
-learned_nothing r store = record { kept = refl; store = store; logs = λ from row lt. sym (with_none from (known_to r)) }
+pub learned_nothing : (spec : Spec) (r : Replica) → IsStore spec (length (known_to r)) r.store → HasLearned spec [] r r
+learned_nothing spec r store = record { kept = refl; store = store; logs = λ from row lt. sym (with_none from (known_to r)) }
 
 -- the first item of a row
 pub first_in_row : (from at : ℕ) (x : LogItem) (items : List LogItem) → AreInRow from at (x ∷ items) → (x.origin ≡ from) × (x.index ≡ at)
 first_in_row from at x items row = (row.0, row.1)
 
 -- one item more was learned
-pub learned_more : (front rest : List LogItem) (x : LogItem) (old mid new : Replica) → HasLearned front old mid → CanLearn mid (x ∷ rest) → new ≡ record mid { store = new.store } → IsStore (length (known_to mid)) new.store
-    → known_to new ≡ slice_set (known_to mid) x.origin (log_at (known_to mid) x.origin ++ x ∷ []) → length (known_to mid) ≡ length (known_to old) → HasLearned (front ++ x ∷ []) old new × CanLearn new rest
-learned_more front rest x old mid new learned can kept store logs whole =
+pub learned_more : (spec : Spec) (front rest : List LogItem) (x : LogItem) (old mid new : Replica) → HasLearned spec front old mid → CanLearn spec mid (x ∷ rest) → new ≡ record mid { store = new.store } → IsStore spec (length (known_to mid)) new.store
+    → known_to new ≡ slice_set (known_to mid) x.origin (log_at (known_to mid) x.origin ++ x ∷ []) → length (known_to mid) ≡ length (known_to old) → HasLearned spec (front ++ x ∷ []) old new × CanLearn spec new rest
+learned_more spec front rest x old mid new learned can kept store logs whole =
     let size : length (known_to new) ≡ length (known_to mid) = ap length logs ∙ length-set (known_to mid) x.origin (log_at (known_to mid) x.origin ++ x ∷ []) in (
       record {
         kept = kept ∙ ap (λ (r : Replica). let q : Replica = record r { store = new.store } in q) learned.kept;
-        store = subst (λ n. IsStore n new.store) whole store;
+        store = subst (λ n. IsStore spec n new.store) whole store;
         logs = λ from row lt.
             let before = learned.logs from (own_front from (length (log_at (known_to old) from)) front (x ∷ []) row) lt in
             let here : x.origin ≡ from = last_origin from (length (log_at (known_to old) from)) front x row in
@@ -96,7 +97,7 @@ learned_more front rest x old mid new learned can kept store logs whole =
       },
       record {
         from = can.from;
-        store = subst (λ n. IsStore n new.store) (sym size) store;
+        store = subst (λ n. IsStore spec n new.store) (sym size) store;
         place = omega (arith, can.place, size);
         row =
             let here : x.origin ≡ can.from = can.row.0 in

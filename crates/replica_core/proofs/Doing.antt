@@ -61,7 +61,7 @@ logged_known setup needs items old new own next logged =
     own_origin me (b ∷ bodies) p = (refl, own_origin me bodies (logged_all me (b ∷ []) p))
 
 -- once it has applied those of another log
-pub learned_known : (setup : Setup) (old new : Replica) (from : ℕ) (items : List LogItem) → IsReplica setup old.me old → AreOthers setup old from items → HasLearned items old new → known_to new ≡ with_all items (known_to old)
+pub learned_known : (setup : Setup) (old new : Replica) (from : ℕ) (items : List LogItem) → IsReplica setup old.me old → AreOthers setup old from items → HasLearned setup.spec items old new → known_to new ≡ with_all items (known_to old)
 learned_known setup old new from items own h learned =
     learned_logs setup old new from items own h learned ∙ sym (with_row from (length (log_at (known_to old) from)) items (known_to old) h.row (omega (arith, h.place, own.store.whole)))
 
@@ -128,7 +128,7 @@ learned_cut setup message old learned front me admits own logs =
 pub record AtLearned (setup : Setup) (message : Message) (taken : Taken) (old heard learned : Replica) (front accepts outs : List LogItem) : Type 0 where
   pub at : AtHeard setup message taken old heard front accepts outs
   pub own : IsReplica setup heard.me learned
-  pub by : HasLearned front heard learned
+  pub by : HasLearned setup.spec front heard learned
 
 -- which of its parts are which
 pub record IsAfter (setup : Setup) (message : Message) (old learned : Replica) (front : List LogItem) : Type 0 where

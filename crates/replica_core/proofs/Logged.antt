@@ -4,6 +4,7 @@ use Rattle.std.specs.Prelude.{slice_index, slice_set}
 use Rattle.std.specs.List.{AllByRecursion}
 use Rattle.std.proofs.lemmas.List.{get_or-set_same, get_or-set_other, length-map, length_push, map-set}
 use Rattle.spec_model.specs.declared.plan.Setup.{Setup}
+use Rattle.spec_model.specs.declared.spec.Spec.{Spec}
 use Rattle.spec_model.specs.declared.log.Body.{Body}
 use Rattle.spec_model.specs.declared.log.LogItem.{LogItem}
 use Rattle.run_model.specs.Logs.{LiesWithin, Logs, log_at}
@@ -33,20 +34,20 @@ count_at (log ∷ logs) zero = refl
 count_at (log ∷ logs) (suc i) = count_at logs i
 
 -- of each log the cut of a store counts the items
-pub cut_counts : (replicas : ℕ) (s : Store) (i : ℕ) → IsStore replicas s → slice_index (cut_in s) i ≡ length (log_at (logs_in s) i)
-cut_counts replicas s i store = ap (λ (c : List ℕ). slice_index c i) store.counts ∙ count_at (logs_in s) i
+pub cut_counts : (spec : Spec) (replicas : ℕ) (s : Store) (i : ℕ) → IsStore spec replicas s → slice_index (cut_in s) i ≡ length (log_at (logs_in s) i)
+cut_counts spec replicas s i store = ap (λ (c : List ℕ). slice_index c i) store.counts ∙ count_at (logs_in s) i
 
-pub cut_long : (replicas : ℕ) (s : Store) → IsStore replicas s → length (cut_in s) ≡ replicas
-cut_long replicas s store = ap length store.counts ∙ length-map (logs_in s) (λ (l : List LogItem). length l) ∙ store.whole
+pub cut_long : (spec : Spec) (replicas : ℕ) (s : Store) → IsStore spec replicas s → length (cut_in s) ≡ replicas
+cut_long spec replicas s store = ap length store.counts ∙ length-map (logs_in s) (λ (l : List LogItem). length l) ∙ store.whole
 
 -- the next item of a replica fits the store
-pub item_placed : (r : Replica) (b : Body) (item : LogItem) → IsStore (length (known_to r)) r.store → r.me < length (known_to r) → item ≡ item_of (view_of r) b → HasRoom 1 r → IsPlaced (length (known_to r)) item
-item_placed r b item store place is room = subst (IsPlaced (length (known_to r))) (sym is) (record { origin = place; small = omega (arith, room); past = cut_long (length (known_to r)) r.store store })
+pub item_placed : (spec : Spec) (r : Replica) (b : Body) (item : LogItem) → IsStore spec (length (known_to r)) r.store → r.me < length (known_to r) → item ≡ item_of (view_of r) b → HasRoom 1 r → IsPlaced (length (known_to r)) item
+item_placed spec r b item store place is room = subst (IsPlaced (length (known_to r))) (sym is) (record { origin = place; small = omega (arith, room); past = cut_long spec (length (known_to r)) r.store store })
 
 -- a store whose logs have grown, and have this log of replica me, gives a view
 pub record GivesView (setup : Setup) (me : ℕ) (a : Logs) (s : Store) (own : List LogItem) : Type 0 where
   pub within : me < setup.replicas
-  pub store : IsStore setup.replicas s
+  pub store : IsStore setup.spec setup.replicas s
   pub grown : GrowsTo a (logs_in s)
   pub there : log_at (logs_in s) me ≡ own
   pub fits : AllByRecursion (AllByRecursion (ItemFits setup)) (logs_in s)
@@ -59,13 +60,13 @@ gives_view setup me a s own h =
     record {
       within = h.within;
       whole = h.store.whole;
-      cut = cut_long setup.replicas s h.store;
-      counts = λ j. cut_counts setup.replicas s j h.store;
+      cut = cut_long setup.spec setup.replicas s h.store;
+      counts = λ j. cut_counts setup.spec setup.replicas s j h.store;
       fits = h.fits;
       own = subst (AreInRow me 0) (sym h.there) h.row;
       accepted = subst (AllByRecursion (λ (i : LogItem). IsKnown now me i.body)) (sym h.there) (each_weaker (IsSeen a me) (λ (i : LogItem). IsKnown now me i.body) (λ i seen. known_more me a now i.body h.grown seen.known) own h.seen);
       pasts = subst (AllByRecursion (λ (i : LogItem). LiesWithin i.deps (cut_in s))) (sym h.there)
-          (each_weaker (IsSeen a me) (λ (i : LogItem). LiesWithin i.deps (cut_in s)) (λ i seen j. let past = seen.past j in let more = grows_long a now j h.grown in let count = cut_counts setup.replicas s j h.store in omega (arith, past, more, count)) own h.seen);
+          (each_weaker (IsSeen a me) (λ (i : LogItem). LiesWithin i.deps (cut_in s)) (λ i seen j. let past = seen.past j in let more = grows_long a now j h.grown in let count = cut_counts setup.spec setup.replicas s j h.store in omega (arith, past, more, count)) own h.seen);
     }
 
 -- ---- an item of its own
@@ -75,7 +76,7 @@ pub record LogsOne (setup : Setup) (b : Body) (old : Replica) (s : Store) (t : T
   pub learn : TablesLearn
   pub own : IsReplica setup old.me old
   pub logs : logs_in s ≡ slice_set (known_to old) old.me (own_log old ++ item_of (view_of old) b ∷ [])
-  pub store : IsStore (length (known_to old)) s
+  pub store : IsStore setup.spec (length (known_to old)) s
   pub known : IsKnown (known_to old) old.me b
   pub fits : BodyFits setup b
   pub room : HasRoom 1 old
@@ -96,7 +97,7 @@ logs_one setup b old s t h =
     let seen : AllByRecursion (IsSeen known me) (own ++ item ∷ []) = each_append (IsSeen known me) own (item ∷ []) (own_seen setup (view_of old) h.own.view) (record { past = λ i. let count = h.own.view.counts i in omega (arith, count); known = h.known }, tt) in
     let placed : slice_index item.deps me ≡ length own = h.own.view.counts me in
     let fits : ItemFits setup item = record { placed = record { origin = h.own.view.within; small = omega (arith, h.room); past = h.own.view.cut }; body = h.fits } in
-    let store : IsStore setup.replicas s = subst (λ n. IsStore n s) whole h.store in
+    let store : IsStore setup.spec setup.replicas s = subst (λ n. IsStore setup.spec n s) whole h.store in
     let cut_is : cut_in s ≡ slice_set (cut_in old.store) me (length own + 1) =
     store.counts ∙ ap (map (λ (l : List LogItem). length l)) h.logs ∙ map-set (λ (l : List LogItem). length l) known me (own ++ item ∷ [])
     ∙ ap (slice_set (map (λ (l : List LogItem). length l) known) me) (length_push own item) ∙ ap (λ (c : List ℕ). slice_set c me (length own + 1)) (sym h.own.store.counts) in
@@ -137,20 +138,20 @@ own_stays setup r from items h = of_items items h.others h.row
     of_items [] others row = ap (λ (l : Logs). log_at l r.me) (with_none from (known_to r))
     of_items (x ∷ items) others row = get_or-set_other (known_to r) from r.me (log_at (known_to r) from ++ x ∷ items) [] (λ same. others.0 (row.0 ∙ sym same))
 
-pub others_can : (setup : Setup) (r : Replica) (from : ℕ) (items : List LogItem) → IsReplica setup r.me r → AreOthers setup r from items → CanLearn r items
+pub others_can : (setup : Setup) (r : Replica) (from : ℕ) (items : List LogItem) → IsReplica setup r.me r → AreOthers setup r from items → CanLearn setup.spec r items
 others_can setup r from items own h = record {
   from = from;
-  store = subst (λ n. IsStore n r.store) (sym own.store.whole) own.store;
+  store = subst (λ n. IsStore setup.spec n r.store) (sym own.store.whole) own.store;
   place = omega (arith, h.place, own.store.whole);
   row = h.row;
   fits = subst (λ n. AllByRecursion (IsPlaced n) items) (sym own.store.whole) (each_weaker (ItemFits setup) (IsPlaced setup.replicas) (λ i fits. fits.placed) items h.fits);
 }
 
 -- the logs that it then knows
-pub learned_logs : (setup : Setup) (old new : Replica) (from : ℕ) (items : List LogItem) → IsReplica setup old.me old → AreOthers setup old from items → HasLearned items old new → known_to new ≡ with_items from items (known_to old)
+pub learned_logs : (setup : Setup) (old new : Replica) (from : ℕ) (items : List LogItem) → IsReplica setup old.me old → AreOthers setup old from items → HasLearned setup.spec items old new → known_to new ≡ with_items from items (known_to old)
 learned_logs setup old new from items own h learned = learned.logs from h.row (omega (arith, h.place, own.store.whole))
 
-pub learned_own : TablesLearn → (setup : Setup) (old new : Replica) (from : ℕ) (items : List LogItem) → IsReplica setup old.me old → AreOthers setup old from items → HasLearned items old new → IsReplica setup old.me new
+pub learned_own : TablesLearn → (setup : Setup) (old new : Replica) (from : ℕ) (items : List LogItem) → IsReplica setup old.me old → AreOthers setup old from items → HasLearned setup.spec items old new → IsReplica setup old.me new
 learned_own learn setup old new from items own h learned =
     let me : ℕ = old.me in
     let s : Store = new.store in
@@ -159,7 +160,7 @@ learned_own learn setup old new from items own h learned =
     let there : log_at (logs_in s) me ≡ own_log old = ap (λ (l : Logs). log_at l me) logs ∙ own_stays setup old from items h in
     let grown : GrowsTo known (logs_in s) = subst (GrowsTo known) (sym logs) (grows_with from items known) in
     let seen = own_seen setup (view_of old) own.view in
-    let store : IsStore setup.replicas s = subst (λ n. IsStore n s) own.store.whole learned.store in
+    let store : IsStore setup.spec setup.replicas s = subst (λ n. IsStore setup.spec n s) own.store.whole learned.store in
     subst (IsReplica setup me) (sym learned.kept) (record {
       me_is = refl;
       setup_fits = own.setup_fits;

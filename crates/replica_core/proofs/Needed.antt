@@ -32,8 +32,8 @@ use Rattle.replica_core.specs.declared.replica.Replica.{Replica}
 use Rattle.replica_core.proofs.Items.{set_back}
 
 -- what it applied is a store, by the logs that it knows
-pub store_whole : (setup : Setup) (r : Replica) → IsReplica setup r.me r → IsStore (length (known_to r)) r.store
-store_whole setup r own = subst (λ n. IsStore n r.store) (sym own.store.whole) own.store
+pub store_whole : (setup : Setup) (r : Replica) → IsReplica setup r.me r → IsStore setup.spec (length (known_to r)) r.store
+store_whole setup r own = subst (λ n. IsStore setup.spec n r.store) (sym own.store.whole) own.store
 
 -- ---- what its table tells
 

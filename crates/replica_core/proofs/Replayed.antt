@@ -21,9 +21,9 @@ use Rattle.run_model.specs.declared.step.Outcome.TheVariants as outcomes
 use Rattle.run_model.specs.Logs.{Logs, cut_after, log_at, with_all}
 use Rattle.run_model.specs.Worlds.{Standing, Sending, Up, logged}
 use Rattle.run_model.specs.Steps.{Requests, Takes, accepts_of}
-use Rattle.run_model.specs.Fitting.{BodyFits, IsPlaced, ItemFits, NeedFits}
+use Rattle.run_model.specs.Fitting.{BodyFits, ItemFits, NeedFits}
 use Rattle.run_model.proofs.Lists.{each_append, each_weaker}
-use Rattle.causal_store.specs.Stores.{HasRoomFor, cut_in, logs_in}
+use Rattle.causal_store.specs.Stores.{HasRoomFor, IsStore, cut_in, logs_in}
 use Rattle.causal_store.specs.declared.store.Store.{Store}
 use Rattle.rights_table.specs.declared.table.Table.{Table}
 use Rattle.rights_table.specs.Whole.{HasAll, HasEntriesFor}
@@ -53,8 +53,8 @@ use Rattle.replica_core.proofs.Silent.{heeded_or_nothing}
 -- ---- the same but for room
 
 -- it decides the same, whatever room there is and whatever needs are kept
-same_ready : (setup : Setup) (old : Replica) (s : Store) (t : Table) (n : List Need) → IsReplica setup old.me old → logs_in s ≡ known_to old → cut_in s ≡ cut_in old.store → HasAll setup (known_to old) old.me (own_log old) t → StaysSame setup old (record old { store = s; table = t; needs = n })
-same_ready setup old s t n own logs cut all =
+same_ready : (setup : Setup) (old : Replica) (s : Store) (t : Table) (n : List Need) → IsReplica setup old.me old → IsStore setup.spec setup.replicas s → logs_in s ≡ known_to old → cut_in s ≡ cut_in old.store → HasAll setup (known_to old) old.me (own_log old) t → StaysSame setup old (record old { store = s; table = t; needs = n })
+same_ready setup old s t n own store logs cut all =
     let me : ℕ = old.me in
     let back : known_to old ≡ logs_in s = sym logs in
     let view : Logs → List ℕ → View = λ l k. record { me = me; known = l; cut = k } in
@@ -64,12 +64,7 @@ same_ready setup old s t n own logs cut all =
       own = record {
         me_is = refl;
         setup_fits = own.setup_fits;
-        store = record {
-          whole = ap length logs ∙ own.store.whole;
-          few = own.store.few;
-          counts = cut ∙ own.store.counts ∙ ap (map (λ (l : List LogItem). length l)) back;
-          fits = subst (AllByRecursion (AllByRecursion (IsPlaced setup.replicas))) back own.store.fits;
-        };
+        store = store;
         view = subst (IsView setup) (sym same) own.view;
         all = subst (λ (l : Logs). HasAll setup l me (log_at l me) t) back all;
         wants = own.wants;
@@ -98,8 +93,8 @@ same_ready setup old s t n own logs cut all =
       };
     }
 
-pub stays_same : (setup : Setup) (old new : Replica) → IsReplica setup old.me old → new ≡ record old { store = new.store; table = new.table; needs = new.needs } → logs_in new.store ≡ known_to old → cut_in new.store ≡ cut_in old.store → HasAll setup (known_to old) old.me (own_log old) new.table → StaysSame setup old new
-stays_same setup old new own kept logs cut all = subst (StaysSame setup old) (sym kept) (same_ready setup old new.store new.table new.needs own logs cut all)
+pub stays_same : (setup : Setup) (old new : Replica) → IsReplica setup old.me old → IsStore setup.spec setup.replicas new.store → new ≡ record old { store = new.store; table = new.table; needs = new.needs } → logs_in new.store ≡ known_to old → cut_in new.store ≡ cut_in old.store → HasAll setup (known_to old) old.me (own_log old) new.table → StaysSame setup old new
+stays_same setup old new own store kept logs cut all = subst (StaysSame setup old) (sym kept) (same_ready setup old new.store new.table new.needs own store logs cut all)
 
 -- ---- what a batch asks of the replica that does it
 
@@ -118,7 +113,7 @@ pub record Replays (setup : Setup) (r : Replica) (items front own : List LogItem
   pub can : AreOthers setup r from front
   pub fits : AllByRecursion (λ i. BodyFits setup i.body) items
   pub acts : (item : LogItem) (inst : Inst) → Contains items item → item.origin ≡ r.me → item.body ≡ body.Act inst → IsLone r items item inst
-  pub next : IsReadyFor setup r items → (learned : Replica) → IsReplica setup r.me learned → HasLearned front r learned → AreNext setup (known_to learned) learned.me learned.needs (standing_of 0 [] [] learned) own × AreEntered setup (known_to learned) learned.needs learned.table own
+  pub next : IsReadyFor setup r items → (learned : Replica) → IsReplica setup r.me learned → HasLearned setup.spec front r learned → AreNext setup (known_to learned) learned.me learned.needs (standing_of 0 [] [] learned) own × AreEntered setup (known_to learned) learned.needs learned.table own
 
 -- ---- an act
 
@@ -156,12 +151,12 @@ act_done setup old new inst batch items decides is h =
     answered_done setup inst old new (length (own_log old)) refl decides.2 (sym decides.0) (record { own = logged.own; stands = logged.stands; knows = logged.knows })
 
 -- a replica that learned nothing
-nothing_learned : (setup : Setup) (r learned : Replica) → IsReplica setup r.me r → HasLearned [] r learned → (known_to learned ≡ known_to r) × (cut_in learned.store ≡ cut_in r.store)
+nothing_learned : (setup : Setup) (r learned : Replica) → IsReplica setup r.me r → HasLearned setup.spec [] r learned → (known_to learned ≡ known_to r) × (cut_in learned.store ≡ cut_in r.store)
 nothing_learned setup r learned own h =
     let same : known_to learned ≡ known_to r = h.logs r.me tt (omega (arith, own.store.whole, own.view.within)) ∙ with_none r.me (known_to r) in
     (same, h.store.counts ∙ ap (map (λ (l : List LogItem). length l)) same ∙ sym own.store.counts)
 
-nothing_next : (setup : Setup) (r learned : Replica) (items : List LogItem) → IsReplica setup r.me r → HasLearned [] r learned → AreNext setup (known_to r) r.me r.needs (standing_of 0 [] [] r) items → AreEntered setup (known_to r) r.needs r.table items
+nothing_next : (setup : Setup) (r learned : Replica) (items : List LogItem) → IsReplica setup r.me r → HasLearned setup.spec [] r learned → AreNext setup (known_to r) r.me r.needs (standing_of 0 [] [] r) items → AreEntered setup (known_to r) r.needs r.table items
     → AreNext setup (known_to learned) learned.me learned.needs (standing_of 0 [] [] learned) items × AreEntered setup (known_to learned) learned.needs learned.table items
 nothing_next setup r learned items own h next entered =
     let same = nothing_learned setup r learned own h in
@@ -360,11 +355,11 @@ logs_short n (log ∷ logs) h = (h 0, logs_short n logs (λ j. h (suc j)))
 -- ---- what a replica is once it has replayed a batch
 
 -- its own log is as it was once it has applied the items of others
-pub replayed_log : (setup : Setup) (items front own : List LogItem) (old learned : Replica) → IsReplica setup old.me old → Replays setup old items front own → IsReplica setup old.me learned → HasLearned front old learned → own_log learned ≡ own_log old
+pub replayed_log : (setup : Setup) (items front own : List LogItem) (old learned : Replica) → IsReplica setup old.me old → Replays setup old items front own → IsReplica setup old.me learned → HasLearned setup.spec front old learned → own_log learned ≡ own_log old
 replayed_log setup items front own old learned is h there learns =
     ap (log_at (known_to learned)) there.me_is ∙ ap (λ (l : Logs). log_at l old.me) (learned_logs setup old learned h.from front is h.can learns) ∙ own_stays setup old h.from front h.can
 
-pub has_replayed : (setup : Setup) (items front own : List LogItem) (old learned new : Replica) → IsReplica setup old.me old → Replays setup old items front own → IsReadyFor setup old items → IsReplica setup old.me learned → HasLearned front old learned → HasLoggedAll setup (map (λ (i : LogItem). i.body) own) learned new → HasReplayed setup items old new
+pub has_replayed : (setup : Setup) (items front own : List LogItem) (old learned new : Replica) → IsReplica setup old.me old → Replays setup old items front own → IsReadyFor setup old items → IsReplica setup old.me learned → HasLearned setup.spec front old learned → HasLoggedAll setup (map (λ (i : LogItem). i.body) own) learned new → HasReplayed setup items old new
 has_replayed setup items front own old learned new is h ready there learns logged =
     let next = (h.next ready learned there learns).0 in
     let bodies : List Body = map (λ (i : LogItem). i.body) own in

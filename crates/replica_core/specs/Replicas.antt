@@ -2,6 +2,7 @@
 use Rattle.std.specs.Prelude.{◌≡◌, ℕ, ◌+◌, ◌<◌, ◌≤◌, List, length, slice_set}
 use Rattle.std.specs.List.{AllByRecursion}
 use Rattle.spec_model.specs.declared.plan.Setup.{Setup}
+use Rattle.spec_model.specs.declared.spec.Spec.{Spec}
 use Rattle.spec_model.specs.declared.instance.Inst.{Inst}
 use Rattle.spec_model.specs.declared.log.Body.{Body}
 use Rattle.spec_model.specs.declared.log.LogItem.{LogItem}
@@ -54,7 +55,7 @@ holds_of setup r need = held_of setup (known_to r) r.me (own_log r) need
 pub record IsReplica (setup : Setup) (me : ℕ) (r : Replica) : Type 0 where
   pub me_is : r.me ≡ me
   pub setup_fits : SetupFits setup
-  pub store : IsStore setup.replicas r.store
+  pub store : IsStore setup.spec setup.replicas r.store
   pub view : IsView setup (view_of r)
   pub all : HasAll setup (known_to r) r.me (own_log r) r.table
   pub wants : AllByRecursion (WantFits setup) r.wants
@@ -90,17 +91,17 @@ pub record HasAnswered (setup : Setup) (inst : Inst) (old : Replica) (outcome : 
   pub grown : length (own_log new) ≤ length (own_log old) + 1
 
 -- these are the next items of another log, which the store may apply
-pub record CanLearn (r : Replica) (items : List LogItem) : Type 0 where
+pub record CanLearn (spec : Spec) (r : Replica) (items : List LogItem) : Type 0 where
   pub from : ℕ
-  pub store : IsStore (length (known_to r)) r.store
+  pub store : IsStore spec (length (known_to r)) r.store
   pub place : from < length (known_to r)
   pub row : AreInRow from (length (log_at (known_to r) from)) items
   pub fits : AllByRecursion (IsPlaced (length (known_to r))) items
 
 -- these items stand at the end of the log that they are of, and all else is as it was
-pub record HasLearned (items : List LogItem) (old new : Replica) : Type 0 where
+pub record HasLearned (spec : Spec) (items : List LogItem) (old new : Replica) : Type 0 where
   pub kept : new ≡ record old { store = new.store }
-  pub store : IsStore (length (known_to old)) new.store
+  pub store : IsStore spec (length (known_to old)) new.store
   pub logs : (from : ℕ) → AreInRow from (length (log_at (known_to old) from)) items → from < length (known_to old) → known_to new ≡ with_items from items (known_to old)
 
 -- a message was taken so

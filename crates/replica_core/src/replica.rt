@@ -71,7 +71,7 @@ impl Replica {
         ensures stands { IfOk result (λ r. standing_of 0 [] [] r ≡ first_standing setup.now.replicas true) }
         ensures knows { IfOk result (λ r. known_to r ≡ replicate setup.now.replicas []) }
     {
-        let store = Store::begin(alloc, setup.replicas)?;
+        let store = Store::begin(alloc, &setup.spec, setup.replicas)?;
         let wants = Wants::begin(alloc)?;
         let told = nothing_told(alloc, setup.replicas)?;
         Ok(Replica {
@@ -107,14 +107,14 @@ impl Replica {
 
     /// Puts its next item at the end of its own log.
     fn append(&mut self, spec: &Spec, item: &LogItem)
-        requires store { IsStore (length (known_to self.old)) self.old.store }
+        requires store { IsStore spec.now (length (known_to self.old)) self.old.store }
         requires place { self.old.me < length (known_to self.old) }
         requires next { (b : BodyOf) × (item.now ≡ item_of (view_of self.old) b) }
         requires room { HasRoom 1 self.old }
         requires ready { (items : List ItemOf) × HasRoomFor self.old.store (item.now ∷ items) }
         ensures kept { self.new ≡ record self.old { store = self.new.store } }
         ensures logs { known_to self.new ≡ slice_set (known_to self.old) self.old.me (own_log self.old ++ item.now ∷ []) }
-        ensures store { IsStore (length (known_to self.old)) self.new.store }
+        ensures store { IsStore spec.now (length (known_to self.old)) self.new.store }
         ensures ready { (items : List ItemOf) → HasRoomFor self.old.store (item.now ∷ items) → HasRoomFor self.new.store items }
     {
         self.store.apply(spec, item);

@@ -3,6 +3,7 @@
 ghost use Rattle.std.specs.Prelude.{◌≡◌, ◌++◌, ◌∷◌, [], IfOk, OnOk, filter, length, map};
 ghost use Rattle.spec_model.specs.Fits.{IsWellFormed};
 ghost use Rattle.spec_model.specs.Universe.{atoms, cells};
+ghost use Rattle.effect_model.specs.Places.{AtomFits};
 ghost use Rattle.run_model.specs.Finals.{final_of};
 ghost use Rattle.causal_store.specs.Stores.{IsShort, IsStore};
 
@@ -35,7 +36,8 @@ impl Replica {
 
     /// Adds an atom that is true.
     fn push_truth(&self, spec: &Spec, truths: &mut List<Atom>, atom: &Atom) -> Result<(), NoMemory>
-        requires { IsStore (length (known_to self.now)) self.now.store }
+        requires own { IsStore spec.now (length (known_to self.now)) self.now.store }
+        requires fits { AtomFits spec.now atom.now }
         ensures { OnOk result (truths.new ≡ truths.old ++ filter (is_true_now spec.now self.now) (atom.now ∷ [])) }
     {
         let _so_far = truths.as_slice();
@@ -49,9 +51,10 @@ impl Replica {
     /// The atoms that are true.
     fn truths(&self, alloc: Global, spec: &Spec) -> Result<List<Atom>, NoMemory>
         requires well_formed { IsWellFormed spec.now }
-        requires own { IsStore (length (known_to self.now)) self.now.store }
+        requires own { IsStore spec.now (length (known_to self.now)) self.now.store }
         ensures { IfOk result (λ l. l ≡ filter (is_true_now spec.now self.now) (atoms spec.now)) }
     {
+        universe_is_all();
         let mut truths = List::new(alloc);
         for place in 0..atom_count(spec) {
             self.push_truth(spec, &mut truths, &atom_at(spec, place))?;
@@ -62,7 +65,7 @@ impl Replica {
     /// What each cell is worth.
     fn values(&self, alloc: Global, spec: &Spec) -> Result<List<CellValue>, NoMemory>
         requires well_formed { IsWellFormed spec.now }
-        requires own { IsStore (length (known_to self.now)) self.now.store }
+        requires own { IsStore spec.now (length (known_to self.now)) self.now.store }
         requires short { IsShort self.now.store }
         ensures { IfOk result (λ l. l ≡ map (value_now spec.now self.now) (cells spec.now)) }
     {

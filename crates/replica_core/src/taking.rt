@@ -73,9 +73,9 @@ impl Replica {
 
     /// Applies the next items of another log.
     fn apply(&mut self, spec: &Spec, items: &[LogItem])
-        requires store { CanLearn self.old items.now }
+        requires store { CanLearn spec.now self.old items.now }
         requires ready { (more : List ItemOf) × HasRoomFor self.old.store (items.now ++ more) }
-        ensures learned { HasLearned items.now self.old self.new }
+        ensures learned { HasLearned spec.now items.now self.old self.new }
         ensures ready { (more : List ItemOf) → HasRoomFor self.old.store (items.now ++ more) → HasRoomFor self.new.store more }
     {
         for item in items {
@@ -89,7 +89,7 @@ impl Replica {
         requires others { (from : ℕ) × AreOthers setup.now self.old from items.now }
         requires ready { (more : List ItemOf) × HasRoomFor self.old.store (items.now ++ more) }
         ensures own { IsReplica setup.now self.old.me self.new }
-        ensures learned { HasLearned items.now self.old self.new }
+        ensures learned { HasLearned setup.now.spec items.now self.old self.new }
         ensures ready { (more : List ItemOf) → HasRoomFor self.old.store (items.now ++ more) → HasRoomFor self.new.store more }
     {
         tables_learn();

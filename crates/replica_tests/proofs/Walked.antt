@@ -4,12 +4,12 @@ use Rattle.std.specs.List.{AllByRecursion}
 use Rattle.spec_model.specs.declared.clause.Clause.{Clause}
 use Rattle.spec_model.specs.declared.plan.LockKind.{LockKind}
 use Rattle.spec_model.specs.declared.plan.Setup.{Setup}
-use Rattle.spec_model.specs.declared.log.LogItem.{LogItem}
+use Rattle.spec_model.specs.declared.spec.Spec.{Spec}
 use Rattle.spec_model.specs.Fits.{EachPairOnce, IsWellFormed, LockFits, PartFits, marked_from}
-use Rattle.run_model.specs.Fitting.{IsPlaced, SetupFits}
+use Rattle.run_model.specs.Fitting.{SetupFits}
 use Rattle.run_model.specs.Logs.{Logs, log_at}
 use Rattle.run_model.proofs.Lists.{each_append}
-use Rattle.causal_store.specs.Stores.{IsStore, cut_in, logs_in}
+use Rattle.causal_store.specs.Stores.{IsStore, logs_in}
 use Rattle.causal_store.specs.declared.store.Store.{Store}
 
 pub each_push : {X : Type 0} (P : X → Type 0) (xs : List X) (x : X) → AllByRecursion P xs → P x → AllByRecursion P (xs ++ x ∷ [])
@@ -41,14 +41,5 @@ short_logs (x ∷ y ∷ []) two a b = (omega (arith, a), (omega (arith, b), tt))
 short_logs (x ∷ y ∷ z ∷ logs) two a b = absurd (omega (arith, two))
 
 -- a store, by how many logs it has
-pub as_whole : (n : ℕ) (s : Store) → IsStore n s → IsStore (length (logs_in s)) s
-as_whole n s own = subst (λ k. IsStore k s) (sym own.whole) own
-
--- one with the same items is a store too
-pub same_store : (n : ℕ) (old new : Store) → IsStore n old → logs_in new ≡ logs_in old → cut_in new ≡ cut_in old → IsStore n new
-same_store n old new own logs cut = record {
-  whole = ap length logs ∙ own.whole;
-  few = own.few;
-  counts = cut ∙ own.counts ∙ ap (map (λ (l : List LogItem). length l)) (sym logs);
-  fits = subst (AllByRecursion (AllByRecursion (IsPlaced n))) (sym logs) own.fits;
-}
+pub as_whole : (spec : Spec) (n : ℕ) (s : Store) → IsStore spec n s → IsStore spec (length (logs_in s)) s
+as_whole spec n s own = subst (λ k. IsStore spec k s) (sym own.whole) own

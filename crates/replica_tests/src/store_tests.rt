@@ -16,7 +16,7 @@ fn a_copy_says_the_same(rt: HostRuntime) -> Result<(), Fail> {
     assert!(rt; inst_fits(spec, &unlock));
     assert!(rt; inst_fits(spec, &sell));
     assert!(rt; inst_fits(spec, &close));
-    let mut store = empty(alloc)?;
+    let mut store = empty(alloc, spec)?;
     put(spec, &mut store, 0, cut(0, 0), &unlock)?;
     put(spec, &mut store, 1, cut(0, 0), &close)?;
     put(spec, &mut store, 1, cut(0, 1), &sell)?;

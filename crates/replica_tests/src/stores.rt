@@ -6,15 +6,17 @@ ghost use Rattle.causal_store.specs.Stores.{IsShort, IsStore, logs_in};
 
 use crate::shop::{atom, stock};
 use causal_store::Store;
+use effect_model::{atom_fits, cell_fits};
 use ind_base::{Cut, NoMemory};
 use spec_model::{Body, Inst, LogItem, Spec};
 use std::alloc::Global;
 
 /// A store of two replicas with no items.
-pub(crate) fn empty(alloc: Global) -> Result<Store, NoMemory>
-    ensures { IfOk result (IsStore 2) }
+pub(crate) fn empty(alloc: Global, spec: &Spec) -> Result<Store, NoMemory>
+    requires { IsWellFormed spec.now }
+    ensures { IfOk result (IsStore spec.now 2) }
 {
-    Store::begin(alloc, 2)
+    Store::begin(alloc, spec, 2)
 }
 
 /// A cut of two replicas.
@@ -35,11 +37,11 @@ pub(crate) fn put(
     deps: Cut,
     inst: &Inst,
 ) -> Result<(), NoMemory>
-    requires own { IsStore 2 store.old }
+    requires own { IsStore spec.now 2 store.old }
     requires place { origin < 2 }
     requires past { length deps ≡ 2 }
     requires fits { InstFits spec.now inst.now }
-    ensures { OnOk result (IsStore 2 store.new) }
+    ensures { OnOk result (IsStore spec.now 2 store.new) }
 {
     let index = store.log(origin).len();
     if index > 1000 {
@@ -66,26 +68,28 @@ fn is_short(store: &Store) -> bool
 
 /// The same in a store of its own.
 pub(crate) fn copy(alloc: Global, spec: &Spec, store: &Store) -> Result<Store, NoMemory>
-    requires { IsStore 2 store.now }
-    ensures { IfOk result (IsStore 2) }
+    requires { IsStore spec.now 2 store.now }
+    ensures { IfOk result (IsStore spec.now 2) }
 {
     store.copy(alloc)
 }
 
 /// Whether an item is open there.
 pub(crate) fn is_open(spec: &Spec, store: &Store, item: u32) -> bool
-    requires { IsStore 2 store.now }
+    requires { IsStore spec.now 2 store.now }
 {
-    store.truth(spec, &atom(0, item))
+    let open = atom(0, item);
+    atom_fits(spec, &open) && store.truth(spec, &open)
 }
 
 /// How many of an item there are, if that can be told.
 pub(crate) fn stock_of(spec: &Spec, store: &Store, item: u32) -> Option<i64>
     requires well_formed { IsWellFormed spec.now }
-    requires own { IsStore 2 store.now }
+    requires own { IsStore spec.now 2 store.now }
 {
-    if spec.nums.is_empty() || !is_short(store) {
+    let cell = stock(item);
+    if !cell_fits(spec, &cell) || !is_short(store) {
         return None;
     }
-    Some(store.value(spec, &stock(item)))
+    Some(store.value(spec, &cell))
 }

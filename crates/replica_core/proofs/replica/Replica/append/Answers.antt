@@ -7,7 +7,7 @@ use Rattle.replica_core.proofs.Logged.{item_placed}
 use Rattle.replica_core.proofs.replica.Replica.append.Goals as goal
 
 pub apply-requires-clause-fits : goal.apply-requires-clause-fits
-apply-requires-clause-fits c = item_placed c.args.self.now c.requires.next.0 c.args.item.now c.requires.store c.requires.place c.requires.next.1 c.requires.room
+apply-requires-clause-fits c = item_placed c.args.spec.now c.args.self.now c.requires.next.0 c.args.item.now c.requires.store c.requires.place c.requires.next.1 c.requires.room
 
 pub apply-requires-clause-next : goal.apply-requires-clause-next
 apply-requires-clause-next c = ap (λ (i : LogItem). i.index) c.requires.next.1 ∙ sym (ap (λ (i : LogItem). length (log_at (known_to c.args.self.now) i.origin)) c.requires.next.1)

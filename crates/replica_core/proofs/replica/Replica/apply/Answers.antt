@@ -13,10 +13,10 @@ loop-item-preserved c =
     let items : List LogItem = c.args.items.now in
     let k = c.loop-item.item-index in
     let x : LogItem = c.item-item.result in
-    let can = drop_step (CanLearn c.loop-item.self) items k x c.loop-item-test.true c.item-item.is c.loop-item.invariant.can in
+    let can = drop_step (CanLearn c.args.spec.now c.loop-item.self) items k x c.loop-item-test.true c.item-item.is c.loop-item.invariant.can in
     let now : Replica = record c.loop-item.self { store = c.apply.new.self } in
-    let both = learned_more (take k items) (drop (k + 1) items) x c.args.self.now c.loop-item.self now c.loop-item.invariant.learned can refl c.apply.ensures.own c.apply.ensures.applied c.loop-item.invariant.learned.store.whole in
-    record { learned = subst (λ (l : List LogItem). HasLearned l c.args.self.now now) (take_step items k x c.loop-item-test.true c.item-item.is) both.0; can = both.1; ready = λ more h. c.apply.ensures.room (drop (k + 1) items ++ more) (drop_step (λ (l : List LogItem). HasRoomFor c.loop-item.self.store (l ++ more)) items k x c.loop-item-test.true c.item-item.is (c.loop-item.invariant.ready more h)) }
+    let both = learned_more c.args.spec.now (take k items) (drop (k + 1) items) x c.args.self.now c.loop-item.self now c.loop-item.invariant.learned can refl c.apply.ensures.own c.apply.ensures.applied c.loop-item.invariant.learned.store.whole in
+    record { learned = subst (λ (l : List LogItem). HasLearned c.args.spec.now l c.args.self.now now) (take_step items k x c.loop-item-test.true c.item-item.is) both.0; can = both.1; ready = λ more h. c.apply.ensures.room (drop (k + 1) items ++ more) (drop_step (λ (l : List LogItem). HasRoomFor c.loop-item.self.store (l ++ more)) items k x c.loop-item-test.true c.item-item.is (c.loop-item.invariant.ready more h)) }
 
 pub apply-requires-clause-room : goal.apply-requires-clause-room
 apply-requires-clause-room c =

@@ -9,8 +9,8 @@ use Rattle.replica_core.proofs.Showing.{cell_known}
 use Rattle.replica_core.proofs.Lists.{map_at}
 use Rattle.replica_core.proofs.replica.Replica.values.Goals as goal
 
-pub value-value-requires-clause-known : goal.value-value-requires-clause-known
-value-value-requires-clause-known c =
+pub value-value-requires-clause-fits : goal.value-value-requires-clause-fits
+value-value-requires-clause-fits c =
     let spec = c.args.spec.now in
     cell_known c.universe_is_all.ensures spec c.loop-place.place c.cell_at-cell.result c.cell_at-cell.ensures
 
