@@ -151,6 +151,12 @@ recovering_room setup stamp r old now h =
 pending_decided : (setup : Setup) (old : Course) (batch : Batch) → IsCourse setup old.me old → old.state ≡ states.Down (Some batch) → IsDecided setup (view_of setup.replicas old) batch × (batch.items ≢ [])
 pending_decided setup old batch own down = subst (IsState setup old.me old.kept) down own.state
 
+-- by what a replica sees that has all that was kept, too
+pub decided_anew : (setup : Setup) (old : Course) (r : Replica) (batch : Batch) → IsCourse setup old.me old → IsRecovered setup old.me old.kept r → old.state ≡ states.Down (Some batch) → IsDecided setup (cores.view_of r) batch
+decided_anew setup old r batch own recovered down =
+    let seen = view_seen setup old.kept r (recovered_committed setup old.me old.kept r own.committed recovered) ∙ ap (λ i. seeing i (logs_after setup.replicas old.kept)) recovered.own.me_is in
+    subst (λ (w : View). IsDecided setup w batch) (sym seen) (pending_decided setup old batch own down).0
+
 -- it is up with that too
 pub kept_too : (setup : Setup) (old : Course) (stamp : ℕ) (r has : Replica) (batch : Batch) → IsCourse setup old.me old → old.state ≡ states.Down (Some batch) → IsRecovered setup old.me old.kept r → HasReplayed setup batch.items r has → stamp ≡ min (max old.stamp 0 + 1) last_stamp
     → IsStep setup asks.Recover heard.Nothing old stamp outcomes.Kept None (old.kept ++ batch ∷ []) (states.Up has)
@@ -195,6 +201,16 @@ kept_too setup old stamp r has batch own down recovered replayed is =
           ∙ ap (stand (log_at v.known me ++ own_of me items) (cut_after v.cut items) [] (no_told n)) (known ∙ logs_grown v items within grows);
     })
 
+-- what is taken out of the state was pending when the recovery began
+was_pending : (setup : Setup) (stamp : ℕ) (r : Replica) (old now : Course) (batch : Batch) → IsRecovering setup stamp r old now → Some batch ≡ pending_in now.state → old.state ≡ states.Down (Some batch)
+was_pending setup stamp r old now batch h pending =
+    let state = pending_of old.state h.down in
+    let there : Some batch ≡ state.0 = pending ∙ ap (λ (c : Course). pending_in c.state) h.room ∙ ap pending_in state.1 in
+    state.1 ∙ ap (λ (p : Option Batch). states.Down p) (sym there)
+
+pub pending_anew : (setup : Setup) (stamp : ℕ) (r : Replica) (old now : Course) (batch : Batch) → IsRecovering setup stamp r old now → Some batch ≡ pending_in now.state → IsDecided setup (cores.view_of r) batch
+pending_anew setup stamp r old now batch h pending = decided_anew setup old r batch h.own h.prepared.recovered (was_pending setup stamp r old now batch h pending)
+
 -- the state that is taken out leaves the room
 pub left_room : (setup : Setup) (stamp : ℕ) (r : Replica) (old now left : Course) (state : State) → IsRecovering setup stamp r old now → left ≡ record now { state = state } → left ≡ with_room (entry_of old stamp asks.Recover outcomes.DiskBroken) (record old { state = state })
 left_room setup stamp r old now left state h is = is ∙ ap (λ (c : Course). let n : Course = record c { state = state } in n) h.room
@@ -204,9 +220,7 @@ pub up_with : (setup : Setup) (stamp : ℕ) (r has : Replica) (batch : Batch) (o
     → HasRecovered setup found.With old (record { entry = last; sent = None }) (record mid { state = states.Up has })
 up_with setup stamp r has batch old now left mid entry last h pending left_is replayed entry_is becomes last_is =
     let ask : Ask = asks.Recover in
-    let state = pending_of old.state h.down in
-    let there : Some batch ≡ state.0 = pending ∙ ap (λ (c : Course). pending_in c.state) h.room ∙ ap pending_in state.1 in
-    let down : old.state ≡ states.Down (Some batch) = state.1 ∙ ap (λ (p : Option Batch). states.Down p) (sym there) in
+    let down = was_pending setup stamp r old now batch h pending in
     let step = kept_too setup old stamp r has batch h.own down h.prepared.recovered replayed h.stamp_is in
     let given : StepEntry = entry_of old stamp ask outcomes.Kept in
     let end : Course = record old { state = states.Down None } in

@@ -25,7 +25,7 @@ use Rattle.rights_table.specs.declared.holding.Holding.TheVariants as holding
 use Rattle.rights_table.specs.Holdings.{count_of, mode_of, point_of, is_of, spent, permits as holding_permits}
 use Rattle.rights_table.specs.declared.table.Table.{Table}
 use Rattle.rights_table.specs.Tables.{holding_in, entered, count_in, mode_in, Becomes}
-use Rattle.rights_table.proofs.Same.{same_is}
+use Rattle.rights_table.specs.Same.{same_is}
 use Rattle.rights_table.proofs.Telling.{count_entered, mode_entered}
 use Rattle.rights_table.proofs.Stepped.{count_by, mode_becomes, points_stay}
 use Rattle.rights_table.proofs.Pieces.{becomes_kept}

@@ -18,7 +18,7 @@ use Rattle.run_model.specs.Rights.{same_right, is_shared, even_share, first_tota
 use Rattle.run_model.specs.Holding.{mode_of as mode_held, held_right}
 use Rattle.run_model.specs.Passing.{can_accept, same_mode}
 use Rattle.rights_table.specs.Whole.{AreFew}
-use Rattle.rights_table.proofs.Same.{same_is}
+use Rattle.rights_table.specs.Same.{same_is}
 
 -- with an item more at most what it adds is more
 count_more : (setup : Setup) (logs : Logs) (me : ℕ) (own : List LogItem) (x : LogItem) (q : Right) → held_count setup logs me (own ++ x ∷ []) q ≤ held_count setup logs me own q + body_gains setup.spec logs q x.body

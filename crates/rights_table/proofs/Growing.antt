@@ -25,7 +25,7 @@ use Rattle.run_model.specs.Holding.{held_right}
 use Rattle.run_model.specs.Passing.{can_accept}
 use Rattle.run_model.specs.Rights.{same_right, is_shared, held_count, body_gains, body_loses, out_gives, piece_count}
 use Rattle.rights_table.specs.Whole.{AreFew, Takes}
-use Rattle.rights_table.proofs.Same.{same_is}
+use Rattle.rights_table.specs.Same.{same_is}
 
 -- at most what the item adds is more
 pub held_more : (setup : Setup) (logs : Logs) (me : ℕ) (own : List LogItem) (x : LogItem) (r : Right) → held_count setup logs me (own ++ x ∷ []) r ≤ held_count setup logs me own r + body_gains setup.spec logs r x.body

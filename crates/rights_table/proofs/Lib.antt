@@ -1,4 +1,3 @@
-pub mod Same
 pub mod Entries
 pub mod Rooms
 pub mod Giving

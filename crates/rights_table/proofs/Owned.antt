@@ -30,7 +30,7 @@ use Rattle.rights_table.specs.Cells.{all_gain}
 use Rattle.rights_table.specs.Tables.{IsEntered}
 use Rattle.rights_table.specs.Whole.{AreNeedsEntered}
 use Rattle.rights_table.proofs.ActedOn.{literal_shared}
-use Rattle.rights_table.proofs.Same.{same_is}
+use Rattle.rights_table.specs.Same.{same_is}
 use Rattle.rights_table.proofs.Sums.{none, sum_tested}
 
 -- ---- entries

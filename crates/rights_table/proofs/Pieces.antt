@@ -29,7 +29,7 @@ use Rattle.rights_table.specs.Tables.{entered, count_in, mode_in, point_in, IsTa
 use Rattle.spec_model.specs.Fits.{IsWellFormed}
 use Rattle.run_model.specs.Fitting.{PieceFits}
 use Rattle.rights_table.proofs.Started.{points_few}
-use Rattle.rights_table.proofs.Same.{same_is}
+use Rattle.rights_table.specs.Same.{same_is}
 use Rattle.rights_table.proofs.Telling.{count_entered, mode_entered}
 use Rattle.rights_table.proofs.Stepped.{table_step, count_by, mode_stays, mode_becomes, point_by}
 

@@ -1,16 +1,14 @@
 -- An entry more, for a right of which the first share is held, changes nothing that is told.
-use Rattle.std.proofs.Common.{◌≡◌, inl, inr, ℕ, true, subst, cond, List, [], ◌∷◌, ◌++◌, sym, ap, ◌∙◌}
-use Rattle.std.specs.Prelude.{Option, Some, None, Result, Ok, Err, IfOk}
+use Rattle.std.proofs.Common.{◌≡◌, ◌⊎◌, inl, inr, Bool, true, false, subst, sym, ap, refl, ◌∙◌}
+use Rattle.std.specs.Prelude.{Option, Some, None, Result, Ok, Err, IfOk, OnOk, is_ok}
 use Rattle.ind_base.specs.declared.refusal.NoMemory.{NoMemory}
 use Rattle.std.specs.Option.{option_map_or}
 use Rattle.std.proofs.lemmas.Bool.{cases_Bool, cond-true, cond-false}
 use Rattle.spec_model.specs.declared.right.Right.{Right}
 use Rattle.run_model.specs.Rights.{same_right}
 use Rattle.rights_table.specs.declared.holding.Holding.{Holding}
-use Rattle.rights_table.specs.declared.entry.Entry.{Entry}
-use Rattle.rights_table.specs.Entries.{entry_of}
-use Rattle.rights_table.proofs.Same.{same_is}
-use Rattle.rights_table.proofs.Entries.{entry_push, kind_entered, no_some}
+use Rattle.rights_table.specs.Same.{same_is, same_refl}
+use Rattle.rights_table.proofs.Entries.{kind_entered, no_some}
 use Rattle.rights_table.proofs.Telling.{count_entered, mode_entered, point_entered}
 use Rattle.rights_table.specs.First.{IsFirst, IsSame}
 use Rattle.run_model.specs.Points.{first_point}
@@ -20,65 +18,83 @@ use Rattle.std.proofs.lemmas.Option.{same_Some}
 use Rattle.spec_model.specs.declared.plan.Setup.{Setup}
 use Rattle.rights_table.specs.declared.table.Table.{Table}
 use Rattle.rights_table.specs.Holdings.{count_of, is_of, mode_of, point_of}
-use Rattle.rights_table.specs.Tables.{count_in, entered, mode_in, point_in, IsHeldBy, TakesOver}
+use Rattle.rights_table.specs.Tables.{count_in, entered, mode_in, point_in, Enters, IsEntered, IsHeldBy, KeepsEntries, TakesOver, TellTheSame}
+
+-- one right is entered, or nothing is new
+enters_cases : (enough : Bool) (r q : Right) (h : Holding) (old new : Table) → Enters enough r h old new → ((enough ≡ true) × (same_right r q ≡ true) × (entered new q ≡ Some h)) ⊎ (entered new q ≡ entered old q)
+enters_cases false r q h old new enters = inr (enters.is q)
+enters_cases true r q h old new enters =
+    elim (cases_Bool (same_right r q)) [
+      | inl same ↦ inl (refl, same, enters.is q ∙ cond-true (same_right r q) (Some h) (entered old q) same)
+      | inr other ↦ inr (enters.is q ∙ cond-false (same_right r q) (Some h) (entered old q) other)
+    ]
 
 -- what is told of it is what was told without an entry
-pub told_same : {X : Type 0} (f : Holding → X) (first : Right → X) (es : List Entry) (e : Entry) (q : Right) → entry_of es e.right ≡ None → f e.holding ≡ first e.right
-    → option_map_or f (entry_of (es ++ e ∷ []) q) (first q) ≡ option_map_or f (entry_of es q) (first q)
-told_same {X} f first es e q none is =
-    ap (λ (o : Option Holding). option_map_or f o (first q)) (entry_push es e q none)
-    ∙ elim (cases_Bool (same_right e.right q)) [
-      | inl same ↦
-          let one : e.right ≡ q = same_is e.right q same in
-          ap (λ (o : Option Holding). option_map_or f o (first q)) (cond-true (same_right e.right q) (Some e.holding) (entry_of es q) same)
-          ∙ is ∙ ap first one
-          ∙ sym (ap (λ (o : Option Holding). option_map_or f o (first q)) (ap (entry_of es) (sym one) ∙ none))
-      | inr other ↦ ap (λ (o : Option Holding). option_map_or f o (first q)) (cond-false (same_right e.right q) (Some e.holding) (entry_of es q) other)
+told_same : {X : Type 0} (f : Holding → X) (first : Right → X) (enough : Bool) (r q : Right) (h : Holding) (old new : Table) → Enters enough r h old new → f h ≡ first r
+    → option_map_or f (entered new q) (first q) ≡ option_map_or f (entered old q) (first q)
+told_same {X} f first enough r q h old new enters is =
+    let told : Option Holding → X = λ o. option_map_or f o (first q) in
+    elim (enters_cases enough r q h old new enters) [
+      | inl here ↦ let one : r ≡ q = same_is r q here.1 in ap told here.2 ∙ is ∙ ap first one ∙ sym (ap told (ap (entered old) (sym one) ∙ enters.was))
+      | inr stays ↦ ap told stays
     ]
 
+-- so both tables tell the same
+pub enters_same : (setup : Setup) (enough : Bool) (r : Right) (h : Holding) (old new : Table) → Enters enough r h old new → IsFirst setup old.me r h → TellTheSame setup old new
+enters_same setup enough r h old new enters first = record {
+  me = enters.me;
+  replicas = enters.replicas;
+  counts = λ q. ap (λ me. option_map_or count_of (entered new q) (even_share (first_total setup q) setup.replicas me)) enters.me ∙ told_same count_of (λ p. even_share (first_total setup p) setup.replicas old.me) enough r q h old new enters first.count;
+  modes = λ q. told_same mode_of (λ p. mode.Forbid) enough r q h old new enters first.mode;
+  points = λ q x. ap (λ me. option_map_or (λ (k : Holding). point_of k x) (entered new q) (first_point setup me q x)) enters.me ∙ told_same (λ k. point_of k x) (λ p. first_point setup old.me p x) enough r q h old new enters (first.points x);
+}
+
 -- and those that had an entry have one
-pub kept_push : (es : List Entry) (e : Entry) (q : Right) → entry_of es e.right ≡ None → (h : Holding) × (entry_of es q ≡ Some h) → (h : Holding) × (entry_of (es ++ e ∷ []) q ≡ Some h)
-kept_push es e q none has =
-    elim (cases_Bool (same_right e.right q)) [
-      | inl same ↦ (e.holding, entry_push es e q none ∙ cond-true (same_right e.right q) (Some e.holding) (entry_of es q) same)
-      | inr other ↦ (has.0, entry_push es e q none ∙ cond-false (same_right e.right q) (Some e.holding) (entry_of es q) other ∙ has.1)
+pub enters_kept : (enough : Bool) (r : Right) (h : Holding) (old new : Table) → Enters enough r h old new → KeepsEntries old new
+enters_kept enough r h old new enters q has =
+    elim (enters_cases enough r q h old new enters) [
+      | inl here ↦ (h, here.2)
+      | inr stays ↦ (has.0, stays ∙ has.1)
     ]
+
+-- with the memory it has one
+enters_it : (r : Right) (h : Holding) (old new : Table) → Enters true r h old new → IsEntered new r
+enters_it r h old new enters = (h, enters.is r ∙ cond-true (same_right r r) (Some h) (entered old r) (same_refl r))
+
+pub enters_ok : {X : Type 0} (made : Result X NoMemory) (r : Right) (h : Holding) (old new : Table) → Enters (is_ok made) r h old new → OnOk made (IsEntered new r)
+enters_ok (Ok x) r h old new enters = enters_it r h old new enters
+enters_ok (Err e) r h old new enters = tt
 
 -- ---- taking over
 
 -- nothing new
-pub takes_none : (setup : Setup) (from old new : Table) → new.me ≡ old.me → new.replicas ≡ old.replicas → new.entries.items ≡ old.entries.items → TakesOver setup from old new
-takes_none setup from old new me replicas same = record {
-  me = me;
-  replicas = replicas;
-  kept = λ q h is. ap (λ (l : List Entry). entry_of l q) same ∙ is;
-  more = λ q h none is. absurd (no_some h (sym is ∙ ap (λ (l : List Entry). entry_of l q) same ∙ none));
+pub takes_none : (setup : Setup) (from old : Table) → TakesOver setup from old old
+takes_none setup from old = record {
+  me = refl;
+  replicas = refl;
+  kept = λ q h is. is;
+  more = λ q h none is. absurd (no_some h (sym is ∙ none));
 }
 
 -- one entry more, as the other table tells
-pub takes_one : (setup : Setup) (from : Table) (es items : List Entry) (e : Entry) → items ≡ es ++ e ∷ [] → entry_of es e.right ≡ None → count_of e.holding ≡ count_in setup from e.right → mode_of e.holding ≡ mode_in from e.right → ((x : ℕ) → point_of e.holding x ≡ point_in setup from e.right x)
-    → ((q : Right) (h : Holding) → entry_of es q ≡ Some h → entry_of items q ≡ Some h) × ((q : Right) (h : Holding) → entry_of es q ≡ None → entry_of items q ≡ Some h → (count_of h ≡ count_in setup from q) × (mode_of h ≡ mode_in from q) × ((x : ℕ) → point_of h x ≡ point_in setup from q x))
-takes_one setup from es items e is none count mode points = (λ q h has. pushed q ∙ kept q h has, λ q h before now. more q h before (sym (pushed q) ∙ now))
-  where
-    pushed : (q : Right) → entry_of items q ≡ cond (same_right e.right q) (Some e.holding) (entry_of es q)
-    pushed q = ap (λ (l : List Entry). entry_of l q) is ∙ entry_push es e q none
-
-    kept : (q : Right) (h : Holding) → entry_of es q ≡ Some h → cond (same_right e.right q) (Some e.holding) (entry_of es q) ≡ Some h
-    kept q h has =
-        elim (cases_Bool (same_right e.right q)) [
-          | inl same ↦ absurd (no_some h (sym has ∙ ap (entry_of es) (sym (same_is e.right q same)) ∙ none))
-          | inr other ↦ cond-false (same_right e.right q) (Some e.holding) (entry_of es q) other ∙ has
-        ]
-
-    more : (q : Right) (h : Holding) → entry_of es q ≡ None → cond (same_right e.right q) (Some e.holding) (entry_of es q) ≡ Some h → (count_of h ≡ count_in setup from q) × (mode_of h ≡ mode_in from q) × ((x : ℕ) → point_of h x ≡ point_in setup from q x)
-    more q h before now =
-        elim (cases_Bool (same_right e.right q)) [
-          | inl same ↦
-              let one : e.right ≡ q = same_is e.right q same in
-              let it : e.holding ≡ h = same_Some e.holding h (sym (cond-true (same_right e.right q) (Some e.holding) (entry_of es q) same) ∙ now) in
-              (ap count_of (sym it) ∙ count ∙ ap (count_in setup from) one, ap mode_of (sym it) ∙ mode ∙ ap (mode_in from) one, λ x. ap (λ (k : Holding). point_of k x) (sym it) ∙ points x ∙ ap (λ (p : Right). point_in setup from p x) one)
-          | inr other ↦ absurd (no_some h (sym now ∙ cond-false (same_right e.right q) (Some e.holding) (entry_of es q) other ∙ before))
-        ]
+pub takes_one : (setup : Setup) (enough : Bool) (from : Table) (r : Right) (h : Holding) (old new : Table) → Enters enough r h old new → IsHeldBy setup from r h → TakesOver setup from old new
+takes_one setup enough from r h old new enters held = record {
+  me = enters.me;
+  replicas = enters.replicas;
+  kept = λ q k has.
+      elim (enters_cases enough r q h old new enters) [
+        | inl here ↦ absurd (no_some k (sym has ∙ ap (entered old) (sym (same_is r q here.1)) ∙ enters.was))
+        | inr stays ↦ stays ∙ has
+      ];
+  more = λ q k none now.
+      elim (enters_cases enough r q h old new enters) [
+        | inl here ↦
+            let one : r ≡ q = same_is r q here.1 in
+            let it : h ≡ k = same_Some h k (sym here.2 ∙ now) in
+            (ap count_of (sym it) ∙ held.count ∙ ap (count_in setup from) one, ap mode_of (sym it) ∙ held.mode ∙ ap (mode_in from) one, λ x. ap (λ (l : Holding). point_of l x) (sym it) ∙ held.points x ∙ ap (λ (p : Right). point_in setup from p x) one)
+        | inr stays ↦ absurd (no_some k (sym now ∙ stays ∙ none))
+      ];
+}
 
 -- ---- holdings of their own
 
@@ -89,7 +105,7 @@ held_copied setup t r h (Ok k) all is same = record {
   count = same.count ∙ sym (count_entered setup t r h is);
   mode = same.mode ∙ sym (mode_entered t r h is);
   points = λ x. same.points x ∙ sym (point_entered setup t r h x is);
-  kind = same.kind setup.replicas r (subst (λ n. is_of n r h ≡ true) all (kind_entered t.replicas t.entries.items r h t.kinds is));
+  kind = same.kind setup.replicas r (subst (λ n. is_of n r h ≡ true) all (kind_entered t.replicas t.entries.entries r h t.kinds is));
 }
 
 -- what is held at the start

@@ -17,7 +17,7 @@ use Rattle.rights_table.specs.declared.holding.Holding.{Holding}
 use Rattle.rights_table.specs.declared.table.Table.{Table}
 use Rattle.rights_table.specs.Holdings.{count_of, mode_of, point_of}
 use Rattle.rights_table.specs.Tables.{entered, count_in, mode_in, point_in, IsTable, Becomes}
-use Rattle.rights_table.proofs.Same.{same_is}
+use Rattle.rights_table.specs.Same.{same_is}
 use Rattle.rights_table.proofs.Telling.{count_entered, mode_entered, point_entered}
 
 -- what an item does to the table, right by right

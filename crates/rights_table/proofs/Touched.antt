@@ -15,7 +15,7 @@ use Rattle.rights_table.specs.declared.table.Table.{Table}
 use Rattle.rights_table.specs.Overlays.{IsOverlay}
 use Rattle.rights_table.specs.Tables.{entered, count_in, mode_in, point_in, IsEntered, IsTable, KeepsEntries, TakesOver}
 use Rattle.rights_table.specs.Whole.{AreFew, HasAll}
-use Rattle.rights_table.proofs.Same.{same_is}
+use Rattle.rights_table.specs.Same.{same_is}
 use Rattle.rights_table.proofs.Telling.{count_entered, mode_entered, point_entered}
 
 pub clash : (b : Bool) → b ≡ true → b ≡ false → ⊥

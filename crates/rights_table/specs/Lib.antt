@@ -1,6 +1,8 @@
 pub mod Holdings
 pub mod First
 pub mod Steps
+pub mod Same
+pub mod Keys
 pub mod Entries
 pub mod Tables
 pub mod Lacks

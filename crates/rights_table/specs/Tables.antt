@@ -1,5 +1,5 @@
 -- A table of rights: what a replica holds of each after the items of its own log.
-use Rattle.std.specs.Prelude.{◌≡◌, true, ℕ, ◌+◌, ◌≤◌, List, Bool, if◌then◌else◌, Option, Some, None, sum_by, nat_lt}
+use Rattle.std.specs.Prelude.{◌≡◌, true, ℕ, ◌+◌, ◌≤◌, ◌&&◌, List, Bool, if◌then◌else◌, Option, Some, None, sum_by, nat_lt}
 use Rattle.std.specs.Option.{option_map_or}
 use Rattle.ind_base.specs.declared.span.Span.{Span}
 use Rattle.spec_model.specs.declared.plan.Setup.{Setup}
@@ -22,7 +22,7 @@ use Rattle.rights_table.specs.Entries.{entry_of}
 
 -- the holding of a right that was touched
 abbrev pub entered : Table → Right → Option Holding
-entered t r = entry_of t.entries.items r
+entered t r = entry_of t.entries r
 
 -- how many replicas there are
 abbrev pub replicas_of : Table → ℕ
@@ -93,6 +93,13 @@ pub record Becomes (r : Right) (before after : Holding) (old new : Table) : Type
   pub replicas : new.replicas ≡ old.replicas
   pub was : entered old r ≡ Some before
   pub is : (q : Right) → entered new q ≡ (if same_right r q then Some after else entered old q)
+
+-- a right that has no entry gets one with this holding, where there is the memory, and all else stays
+pub record Enters (enough : Bool) (r : Right) (h : Holding) (old new : Table) : Type 0 where
+  pub me : new.me ≡ old.me
+  pub replicas : new.replicas ≡ old.replicas
+  pub was : entered old r ≡ None
+  pub is : (q : Right) → entered new q ≡ (if enough && same_right r q then Some h else entered old q)
 
 -- the holding is what the table tells of the right
 pub record IsHeldBy (setup : Setup) (t : Table) (r : Right) (h : Holding) : Type 0 where

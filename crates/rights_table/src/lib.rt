@@ -3,9 +3,9 @@
 
 mod acting;
 mod acts;
-mod entry;
 mod first;
 mod holding;
+mod key;
 mod laws;
 mod moving;
 mod overlay;

@@ -13,6 +13,7 @@ ghost use Rattle.rights_table.specs.Whole.{HasAll};
 
 use crate::table::Table;
 use ind_base::NoMemory;
+use indexmap::IndexMap;
 use spec_model::{Held, Need, Piece, Right, Setup};
 use std::alloc::Global;
 
@@ -40,7 +41,7 @@ impl Overlay<'_> {
             touched: Table {
                 me: table.me,
                 replicas: table.replicas,
-                entries: Vec::new(alloc),
+                entries: IndexMap::new(alloc),
             },
             under: table,
         }

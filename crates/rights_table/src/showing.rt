@@ -120,8 +120,8 @@ impl Table {
         requires of { (key : Sequence ℕ) × (right.now ≡ right_of.Part part key) }
         ensures { IfOk result (λ hold. option_to_list hold ≡ shown_in setup.now self.now right.now) }
     {
-        match self.place(right) {
-            Some(at) => match &self.entries[at].holding {
+        match self.entry(right) {
+            Some(holding) => match holding {
                 Holding::Points(points) => show_points(alloc, setup, self.me, right, part, points),
                 _ => unreachable!(),
             },

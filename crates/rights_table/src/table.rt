@@ -1,12 +1,15 @@
 //! A table of rights, with an entry for each right that was touched.
 
-ghost use Rattle.std.specs.Prelude.{◌≡◌, ◌<◌, ◌≤◌, ◌+◌, ◌^◌, [], true, false, Bool, IfSome, IfNone, None, Some, OnOk};
+ghost use Rattle.std.specs.Prelude.{◌≡◌, ◌<◌, [], true, Bool, None, Some, OnOk, is_ok};
+ghost use Rattle.std.specs.Option.{option_copied};
 ghost use Rattle.rights_table.specs.Entries.{are_of_kind};
 
-use crate::entry::Entry;
 use crate::first::first_holding;
+use crate::holding::Holding;
+use crate::key::Key;
 use crate::step::Step;
 use ind_base::NoMemory;
+use indexmap::IndexMap;
 use spec_model::{Right, Setup};
 use std::alloc::Global;
 
@@ -16,8 +19,8 @@ use std::alloc::Global;
 pub struct Table {
     pub(crate) me: u32,
     pub(crate) replicas: u32,
-    pub(crate) entries: Vec<Entry>,
-    ghost kinds: { are_of_kind replicas entries.items ≡ true },
+    pub(crate) entries: IndexMap<Key, Holding>,
+    ghost kinds: { are_of_kind replicas entries.entries ≡ true },
     ghost mine: { me < replicas },
 }
 
@@ -26,9 +29,9 @@ impl Table {
     ghost use Rattle.spec_model.specs.declared.right.Right.{Right as RightOf};
     ghost use Rattle.spec_model.specs.Fits.{IsWellFormed};
     ghost use Rattle.rights_table.specs.declared.holding.Holding.{Holding as HoldingOf};
+    ghost use Rattle.rights_table.specs.Holdings.{is_of};
     ghost use Rattle.rights_table.specs.Steps as steps;
-    ghost use Rattle.rights_table.specs.Tables.{Becomes, IsEntered, IsTable, KeepsEntries, TellTheSame, entered, replicas_of};
-    ghost use Rattle.rights_table.specs.Entries.{IsPlace, entry_of};
+    ghost use Rattle.rights_table.specs.Tables.{Becomes, Enters, IsEntered, IsTable, KeepsEntries, TellTheSame, entered, replicas_of};
 
     /// The table of a replica that has logged nothing. It takes no memory.
     pub fn begin(alloc: Global, setup: &Setup, me: u32) -> Table
@@ -38,22 +41,15 @@ impl Table {
         Table {
             me,
             replicas: setup.replicas,
-            entries: Vec::new(alloc),
+            entries: IndexMap::new(alloc),
         }
     }
 
-    /// The place of a right's entry.
-    pub(crate) fn place(&self, right: &Right) -> Option<usize>
-        ensures some { IfSome result (IsPlace self.now.entries.items right.now) }
-        ensures none { IfNone result (entry_of self.now.entries.items right.now ≡ None) }
+    /// The holding of a right that has an entry.
+    pub(crate) fn entry(&self, right: &Right) -> Option<&Holding>
+        ensures { option_copied result ≡ entered self.now right.now }
     {
-        let entries = self.entries.as_slice();
-        for at in 0..entries.len() {
-            if entries[at].is_of(right) {
-                return Some(at);
-            }
-        }
-        None
+        self.entries.get(&Key::of(right))
     }
 
     /// Makes an entry for a right, where it has none. All that is told stays.
@@ -65,28 +61,22 @@ impl Table {
         ensures entered { OnOk result (IsEntered self.new right.now) }
         ensures kept { KeepsEntries self.old self.new }
     {
-        match self.place(right) {
-            Some(_) => return Ok(()),
-            None => {}
+        if self.has(right) {
+            return Ok(());
         }
         let alloc = *self.entries.allocator();
         let holding = first_holding(alloc, setup, self.me, right)?;
-        self.entries.push(Entry {
-            right: *right,
-            holding,
-        })?;
-        Ok(())
+        self.enter(right, holding)
     }
 
-    /// The place of a right that has an entry.
-    fn at(&self, right: &Right) -> usize
-        requires { IsEntered self.now right.now }
-        ensures { IsPlace self.now.entries.items right.now result }
+    /// Makes an entry for a right that has none.
+    pub(crate) fn enter(&mut self, right: &Right, holding: Holding) -> Result<(), NoMemory>
+        requires none { entered self.old right.now ≡ None }
+        requires kind { is_of self.old.replicas right.now holding ≡ true }
+        ensures { Enters (is_ok result) right.now holding self.old self.new }
     {
-        match self.place(right) {
-            Some(at) => at,
-            None => unreachable!(),
-        }
+        self.entries.insert(Key::of(right), holding)?;
+        Ok(())
     }
 
     /// Takes a step with the holding of a right.
@@ -95,7 +85,9 @@ impl Table {
         requires may { (h : HoldingOf) → entered self.old right.now ≡ Some h → steps.MayStep h step.now }
         ensures { (before after : HoldingOf) × Becomes right.now before after self.old self.new × steps.IsStep before step.now after }
     {
-        let at = self.at(right);
-        self.entries[at].holding.step(step);
+        match self.entries.get_mut(&Key::of(right)) {
+            Some(holding) => holding.step(step),
+            None => unreachable!(),
+        }
     }
 }

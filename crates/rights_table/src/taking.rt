@@ -2,9 +2,9 @@
 
 ghost use Rattle.std.specs.Prelude.{◌≡◌, ◌<◌, true, false, is_some, IfOk, OnOk};
 
-use crate::entry::Entry;
 use crate::first::first_holding;
 use crate::holding::Holding;
+use crate::key::Key;
 use crate::table::Table;
 use ind_base::NoMemory;
 use spec_model::{Right, Setup};
@@ -18,10 +18,7 @@ impl Table {
     pub(crate) fn has(&self, right: &Right) -> bool
         ensures { result ≡ is_some (entered self.now right.now) }
     {
-        match self.place(right) {
-            Some(_) => true,
-            None => false,
-        }
+        self.entries.contains_key(&Key::of(right))
     }
 
     /// The holding of a right, in a value of its own.
@@ -31,8 +28,8 @@ impl Table {
         requires replicas { replicas_of self.now ≡ setup.now.replicas }
         ensures { IfOk result (IsHeldBy setup.now self.now right.now) }
     {
-        match self.place(right) {
-            Some(at) => self.entries[at].holding.copy(alloc),
+        match self.entry(right) {
+            Some(holding) => holding.copy(alloc),
             None => first_holding(alloc, setup, self.me, right),
         }
     }
@@ -51,16 +48,11 @@ impl Table {
         ensures over { TakesOver setup.now from.now self.old self.new }
         ensures entered { OnOk result (IsEntered self.new right.now) }
     {
-        match self.place(right) {
-            Some(_) => return Ok(()),
-            None => {}
+        if self.has(right) {
+            return Ok(());
         }
         let alloc = *self.entries.allocator();
         let holding = from.holding(alloc, setup, right)?;
-        self.entries.push(Entry {
-            right: *right,
-            holding,
-        })?;
-        Ok(())
+        self.enter(right, holding)
     }
 }

@@ -66,8 +66,8 @@ impl Table {
         requires replicas { replicas_of self.now ≡ setup.now.replicas }
         ensures { result ≡ held_in setup.now self.now right.now span.now }
     {
-        match self.place(right) {
-            Some(at) => self.entries[at].holding.told(span),
+        match self.entry(right) {
+            Some(holding) => holding.told(span),
             None => first_told(setup, self.me, right, span),
         }
     }

@@ -3,8 +3,11 @@ use Rattle.run_model.specs.declared.step.Outcome.TheVariants as outcomes
 use Rattle.std.specs.Prelude.{None}
 use Rattle.replica_course.specs.Parts.{entry_of}
 use Rattle.replica_course.specs.declared.course.State.TheVariants as states
-use Rattle.replica_course.proofs.Stopped.{left_room, recovering_room, up_with}
+use Rattle.replica_course.proofs.Stopped.{left_room, pending_anew, recovering_room, up_with}
 use Rattle.replica_course.proofs.course.Course.come_up_with.Goals as goal
+
+pub replay-requires-clause-decided : goal.replay-requires-clause-decided
+replay-requires-clause-decided c = pending_anew c.args.setup.now c.args.stamp c.args.replica c.requires.recovering.0 c.args.self.now c.in-Some.batch c.requires.recovering.1 c.in-Some.ensures.pending
 
 pub replay-requires-clause-room : goal.replay-requires-clause-room
 replay-requires-clause-room c = recovering_room c.args.setup.now c.args.stamp c.args.replica c.requires.recovering.0 c.args.self.now c.requires.recovering.1

@@ -13,7 +13,7 @@ change-requires-clause-may c = λ h is.
     let t = c.args.self.now in
     let r = c.args.right.now in
     let p = c.args.piece.now in
-    let kind = kind_entered t.replicas t.entries.items r h t.kinds is in
+    let kind = kind_entered t.replicas t.entries.entries r h t.kinds is in
     let can = subst (λ (held : Held). can_accept c.args.setup.now.replicas held p ≡ true) (sym (told_held c.args.setup.now t t.replicas r h (span_given p) is kind)) c.requires.joins in
     joins_may t.replicas r h p kind (piece_low c.args.setup.now r p c.requires.well_formed c.requires.piece) (subst (λ n. can_accept n (told h (span_given p)) p ≡ true) (sym c.requires.replicas) can)
 

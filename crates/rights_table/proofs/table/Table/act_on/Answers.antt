@@ -1,7 +1,7 @@
 use Rattle.std.proofs.Common.{sym, ◌∙◌}
 use Rattle.run_model.specs.Levels.{acts_on}
 use Rattle.rights_table.specs.Acting.{shares_in}
-use Rattle.rights_table.proofs.Same.{same_refl}
+use Rattle.rights_table.specs.Same.{same_refl}
 use Rattle.rights_table.proofs.Levels.{acts_none}
 use Rattle.rights_table.proofs.table.Table.act_on.Goals as goal
 

@@ -11,7 +11,7 @@ change-requires-clause-may c = λ h is.
     let t = c.args.self.now in
     let r = c.args.right.now in
     let count = count_entered c.args.setup.now t r h is in
-    (escrow_counts t.replicas r h c.requires.escrow (kind_entered t.replicas t.entries.items r h t.kinds is), omega (arith, count, c.requires.small))
+    (escrow_counts t.replicas r h c.requires.escrow (kind_entered t.replicas t.entries.entries r h t.kinds is), omega (arith, count, c.requires.small))
 
 pub returns : goal.returns
 returns c =
@@ -21,4 +21,4 @@ returns c =
     let before : Holding = done.0 in
     let after : Holding = done.1 in
     let becomes : Becomes r before after t c.change.new.self = done.2 in
-    gained c.args.setup.now r c.args.n before after t c.change.new.self becomes (escrow_counts t.replicas r before c.requires.escrow (kind_entered t.replicas t.entries.items r before t.kinds becomes.was)) done.3.0 done.3.1
+    gained c.args.setup.now r c.args.n before after t c.change.new.self becomes (escrow_counts t.replicas r before c.requires.escrow (kind_entered t.replicas t.entries.entries r before t.kinds becomes.was)) done.3.0 done.3.1

@@ -11,7 +11,7 @@ change-requires-clause-may c = λ h is.
     let t = c.args.self.now in
     let r = c.args.right.now in
     let p = c.args.piece.now in
-    let kind = kind_entered t.replicas t.entries.items r h t.kinds is in
+    let kind = kind_entered t.replicas t.entries.entries r h t.kinds is in
     held_may t.replicas r h p kind (subst (λ (held : Held). IsHeldPiece held p) (sym (told_held c.args.setup.now t t.replicas r h (span_given p) is kind)) c.requires.held)
 
 pub returns-clause-out : goal.returns-clause-out

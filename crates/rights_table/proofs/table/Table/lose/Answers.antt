@@ -12,7 +12,7 @@ change-requires-clause-may c = λ h is.
     let t = c.args.self.now in
     let r = c.args.right.now in
     let count = count_entered c.args.setup.now t r h is in
-    count_permits h c.args.n (escrow_counts t.replicas r h c.requires.escrow (kind_entered t.replicas t.entries.items r h t.kinds is)) (omega (arith, count, c.requires.held))
+    count_permits h c.args.n (escrow_counts t.replicas r h c.requires.escrow (kind_entered t.replicas t.entries.entries r h t.kinds is)) (omega (arith, count, c.requires.held))
 
 pub returns : goal.returns
 returns c =
@@ -21,7 +21,7 @@ returns c =
     let done = c.change.ensures in
     let before : Holding = done.0 in
     let becomes : Becomes r before done.1 t c.change.new.self = done.2 in
-    let counted : is_count before ≡ true = escrow_counts t.replicas r before c.requires.escrow (kind_entered t.replicas t.entries.items r before t.kinds becomes.was) in
+    let counted : is_count before ≡ true = escrow_counts t.replicas r before c.requires.escrow (kind_entered t.replicas t.entries.entries r before t.kinds becomes.was) in
     let count = count_entered c.args.setup.now t r before becomes.was in
     let le : c.args.n ≤ count_of before = omega (arith, count, c.requires.held) in
     lost c.args.setup.now r c.args.n before t c.change.new.self (subst (λ (h : Holding). Becomes r before h t c.change.new.self) done.3 becomes) counted le

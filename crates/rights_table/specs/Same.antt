@@ -1,6 +1,7 @@
--- Rights that are tested as the same are, and each is tested as itself.
-use Rattle.std.proofs.Common.{◌≡◌, ℕ, Bool, true, false, List, refl, ap, ◌∙◌, eqb-true, arith}
+-- Rights that are tested as the same are, and each is tested as itself: so they can be keys of a map.
+use Rattle.std.proofs.Common.{◌≡◌, ℕ, Bool, true, false, List, refl, ap, ◌∙◌, eqb-true}
 use Rattle.std.specs.Prelude.{◌==◌, ◌&&◌}
+use Rattle.std.specs.Cmp.{unsigned_Decides}
 use Rattle.std.specs.Str.{bytes_eq as same_numbers}
 use Rattle.std.proofs.lemmas.Bool.{and_parts}
 use Rattle.std.proofs.lemmas.Slice.Eq.{bytes_eq-Decides}
@@ -53,7 +54,7 @@ both true b p q = q
 both false b p q = absurd cc
 
 number_same : (n : ℕ) → (n == n) ≡ true
-number_same n = search (arith)
+number_same n = (unsigned_Decides n n).1 refl
 
 numbers_same : (xs : List ℕ) → same_numbers xs xs ≡ true
 numbers_same xs = (bytes_eq-Decides xs xs).1 refl

@@ -1,0 +1,33 @@
+-- Rights as keys of a map.
+use Rattle.std.specs.Prelude.{◌≡◌, ℕ, true, List, ◌++◌, IsTrue}
+use Rattle.std.specs.Bool.{Decides}
+use Rattle.std.specs.Cmp.{IsEquivalence, decided}
+use Rattle.std.specs.Hash as fed
+use Rattle.std.proofs.Common.{ap, subst}
+use Rattle.spec_model.specs.declared.right.Right.{Right}
+use Rattle.spec_model.specs.declared.right.Right.TheVariants as right
+use Rattle.run_model.specs.Rights.{same_right}
+use Rattle.rights_table.specs.Same.{same_is, same_refl}
+
+-- what is hashed of a right of a kind with this number and these arguments
+abbrev pub named : ℕ → ℕ → List ℕ → fed.HashWrites
+named kind number args = fed.u8 kind ++ fed.u32 number ++ fed.slice fed.u32 args
+
+-- what is hashed of a right: all that it is
+abbrev pub fed_of : Right → fed.HashWrites
+fed_of (right.Low cell) = named 0 cell.num cell.args
+fed_of (right.High cell) = named 1 cell.num cell.args
+fed_of (right.Lock lock key) = named 2 lock key
+fed_of (right.Entry clause args literal) = named 3 clause args ++ fed.u32 literal
+fed_of (right.Part part key) = named 4 part key
+
+same_decides : (a b : Right) → Decides (same_right a b) (a ≡ b)
+same_decides a b = (same_is a b, λ e. subst (λ (c : Right). same_right a c ≡ true) e (same_refl a))
+
+-- rights are the same as keys where they are one
+pub same_equiv : IsEquivalence same_right
+same_equiv = decided same_right same_decides
+
+-- one right is hashed as one
+pub same_fed : (a b : Right) → IsTrue (same_right a b) → fed_of a ≡ fed_of b
+same_fed a b same = ap fed_of (same_is a b same)
