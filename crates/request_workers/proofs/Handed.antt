@@ -5,7 +5,7 @@ use Rattle.std.specs.List.{AllByRecursion}
 use Rattle.std.proofs.lemmas.Bool.{cases_lt}
 use Rattle.std.proofs.lemmas.List.{append_assoc, length-append}
 use Rattle.rights_journal.proofs.Frames.{all_push}
-use Rattle.ind_disk.specs.Bay.{IsEmpty, TellsAll}
+use Rattle.ind_disk.specs.Bay.{IsEmpty, Returned, TellsAll, returned_of}
 use Rattle.ind_disk.specs.Disk.{Standing}
 use Rattle.ind_disk.specs.declared.stop.Stop.{Stop}
 use Rattle.scenario_text.specs.declared.document.StopLine.{StopLine}
@@ -77,29 +77,29 @@ one_handed {B} {D} standing may_leave tells has_given given lines k first old ne
     }
 
 -- before the first comes back
-pub none_back : {B D : Type 0} (standing : D → Standing) (tells : B → Bool) (has_given : B → ℕ → Type 0) (given : B → ℕ → List (List Stop)) (left : B → ℕ → Option (List ℕ)) (bay : B) (disks : List D)
+pub none_back : {B D : Type 0} (standing : D → Standing) (tells : B → Bool) (has_given : B → ℕ → Type 0) (given : B → ℕ → List (List Stop)) (left : B → ℕ → Option Returned) (bay : B) (disks : List D)
     → AreBack standing tells has_given given left 0 bay bay disks
 none_back standing tells has_given given left bay disks = record {
   same = refl;
   places = λ r has. has;
   asked = λ telling r. refl;
-  bytes = λ telling r d lt. absurd (omega (arith, lt));
+  told = λ telling r d lt. absurd (omega (arith, lt));
 }
 
 -- what a bay did that took a disk back for this replica
-pub record HasTakenOne {B D : Type 0} (standing : D → Standing) (tells : B → Bool) (has_given : B → ℕ → Type 0) (given : B → ℕ → List (List Stop)) (left : B → ℕ → Option (List ℕ)) (replica : ℕ) (old new : B) (disk : D) : Type 0 where
+pub record HasTakenOne {B D : Type 0} (standing : D → Standing) (tells : B → Bool) (has_given : B → ℕ → Type 0) (given : B → ℕ → List (List Stop)) (left : B → ℕ → Option Returned) (replica : ℕ) (old new : B) (disk : D) : Type 0 where
   pub same : tells new ≡ tells old
   pub places : (r : ℕ) → has_given old r → has_given new r
   pub asked : IsTrue (tells old) → (r : ℕ) → given new r ≡ given old r
-  pub bytes : IsTrue (tells old) → IsTrue (standing disk).tells → left new replica ≡ Some (standing disk).bytes
+  pub told : IsTrue (tells old) → IsTrue (standing disk).tells → IsTrue (standing disk).tells_stops → left new replica ≡ Some (returned_of (standing disk))
   pub others : IsTrue (tells old) → (r : ℕ) → r ≢ replica → left new r ≡ left old r
 
 -- at its place
-pub taken_at : {B D : Type 0} (standing : D → Standing) (tells : B → Bool) (has_given : B → ℕ → Type 0) (given : B → ℕ → List (List Stop)) (left : B → ℕ → Option (List ℕ)) (replica place : ℕ) (old new : B) (disk : D) → replica ≡ place
+pub taken_at : {B D : Type 0} (standing : D → Standing) (tells : B → Bool) (has_given : B → ℕ → Type 0) (given : B → ℕ → List (List Stop)) (left : B → ℕ → Option Returned) (replica place : ℕ) (old new : B) (disk : D) → replica ≡ place
     → HasTakenOne standing tells has_given given left replica old new disk → HasTakenOne standing tells has_given given left place old new disk
 taken_at standing tells has_given given left replica place old new disk is = subst (λ r. HasTakenOne standing tells has_given given left r old new disk) is
 
-pub one_back : {B D : Type 0} (standing : D → Standing) (tells : B → Bool) (has_given : B → ℕ → Type 0) (given : B → ℕ → List (List Stop)) (left : B → ℕ → Option (List ℕ)) (k : ℕ) (first old new : B) (disks : List D) (disk : D)
+pub one_back : {B D : Type 0} (standing : D → Standing) (tells : B → Bool) (has_given : B → ℕ → Type 0) (given : B → ℕ → List (List Stop)) (left : B → ℕ → Option Returned) (k : ℕ) (first old new : B) (disks : List D) (disk : D)
     → slice_get disks k ≡ Some disk → AreBack standing tells has_given given left k first old disks → HasTakenOne standing tells has_given given left k old new disk
     → AreBack standing tells has_given given left (k + 1) first new disks
 one_back {B} {D} standing tells has_given given left k first old new disks disk there h one =
@@ -108,12 +108,13 @@ one_back {B} {D} standing tells has_given given left k first old new disks disk 
       same = one.same ∙ h.same;
       places = λ r has. one.places r (h.places r has);
       asked = λ telling r. one.asked (still telling) r ∙ h.asked telling r;
-      bytes = λ telling r d lt is tells_it. elim (cases_lt r k) [
-        | inl before ↦ one.others (still telling) r (λ same. absurd (omega (arith, before, same))) ∙ h.bytes telling r d before is tells_it
+      told = λ telling r d lt is tells_it tells_stops. elim (cases_lt r k) [
+        | inl before ↦ one.others (still telling) r (λ same. absurd (omega (arith, before, same))) ∙ h.told telling r d before is tells_it tells_stops
         | inr le ↦
             let here : r ≡ k = omega (arith, lt, le) in
             let it : disk ≡ d = same_at disk d (sym there ∙ subst (λ i. slice_get disks i ≡ Some d) here is) in
-            subst (λ i. left new i ≡ Some (standing d).bytes) (sym here) (subst (λ (e : D). left new k ≡ Some (standing e).bytes) it (one.bytes (still telling) (subst (λ (e : D). IsTrue (standing e).tells) (sym it) tells_it)))
+            subst (λ i. left new i ≡ Some (returned_of (standing d))) (sym here)
+            (subst (λ (e : D). left new k ≡ Some (returned_of (standing e))) it (one.told (still telling) (subst (λ (e : D). IsTrue (standing e).tells) (sym it) tells_it) (subst (λ (e : D). IsTrue (standing e).tells_stops) (sym it) tells_stops)))
       ];
     }
   where

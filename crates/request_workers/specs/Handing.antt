@@ -1,7 +1,7 @@
 -- The disks that a bay hands out for a run and takes back.
 use Rattle.std.specs.Prelude.{◌≡◌, ◌<◌, ◌≤◌, ℕ, List, [], ◌∷◌, ◌++◌, length, slice_get, Bool, IsTrue, Option, Some}
 use Rattle.std.specs.List.{AllByRecursion}
-use Rattle.ind_disk.specs.Bay.{IsEmpty, TellsAll}
+use Rattle.ind_disk.specs.Bay.{IsEmpty, Returned, TellsAll, returned_of}
 use Rattle.ind_disk.specs.Disk.{Standing}
 use Rattle.ind_disk.specs.declared.stop.Stop.{Stop}
 use Rattle.scenario_text.specs.declared.document.StopLine.{StopLine}
@@ -18,8 +18,8 @@ pub record AreHanded {B D : Type 0} (standing : D → Standing) (may_leave : D �
   pub nothing_else : IsTrue (tells old) → (r : ℕ) → replicas ≤ r → given new r ≡ given old r
 
 -- the first so many of these disks have come back, each for the replica at its place
-pub record AreBack {B D : Type 0} (standing : D → Standing) (tells : B → Bool) (has_given : B → ℕ → Type 0) (given : B → ℕ → List (List Stop)) (left : B → ℕ → Option (List ℕ)) (many : ℕ) (old new : B) (disks : List D) : Type 0 where
+pub record AreBack {B D : Type 0} (standing : D → Standing) (tells : B → Bool) (has_given : B → ℕ → Type 0) (given : B → ℕ → List (List Stop)) (left : B → ℕ → Option Returned) (many : ℕ) (old new : B) (disks : List D) : Type 0 where
   pub same : tells new ≡ tells old
   pub places : (r : ℕ) → has_given old r → has_given new r
   pub asked : IsTrue (tells old) → (r : ℕ) → given new r ≡ given old r
-  pub bytes : IsTrue (tells old) → (r : ℕ) (d : D) → r < many → slice_get disks r ≡ Some d → IsTrue (standing d).tells → left new r ≡ Some (standing d).bytes
+  pub told : IsTrue (tells old) → (r : ℕ) (d : D) → r < many → slice_get disks r ≡ Some d → IsTrue (standing d).tells → IsTrue (standing d).tells_stops → left new r ≡ Some (returned_of (standing d))

@@ -99,7 +99,7 @@ pub fn simulate<B: Bay>(
     requires schedule { ScheduleFits setup.now.spec setup.now.replicas schedule.now }
     ensures legal { IfOk result (λ histories. (world : WorldOf) × AreLegal setup.now schedule.now histories world
         × (IsTrue (B.tells bay.old) → (entries : List EntryOf) → IsMerged histories entries
-        → BayTells setup.now lines.now (ups_of histories) entries world (record { tells = B.tells bay.old; given_before = B.given bay.old; given_after = B.given bay.new; left = B.left bay.new }))) }
+        → BayTells setup.now lines.now (ups_of histories) entries world (record { tells = B.tells bay.old; given_before = B.given bay.old; given_after = B.given bay.new; left_before = B.left bay.old; left_after = B.left bay.new }))) }
     ensures tells { IfOk result (λ histories. B.tells bay.new ≡ B.tells bay.old) }
 {
     runs_are_sound();

@@ -15,5 +15,5 @@ loop-disk-preserved g c =
           (one_back g.B.D.Disk.standing g.B.Bay.tells g.B.Bay.has_given g.B.Bay.given g.B.Bay.left (length c.loop-disk.yielded) c.args.bay.now c.loop-disk.bay c.back.new.self c.args.disks.items c.in-Some.disk
           (next_there c.args.disks.items c.loop-disk.yielded _ _ c.in-Some.disk c.loop-disk.invariant.0 split) c.loop-disk.invariant.2
           (taken_at g.B.D.Disk.standing g.B.Bay.tells g.B.Bay.has_given g.B.Bay.given g.B.Bay.left c.loop-disk.replica (length c.loop-disk.yielded) c.loop-disk.bay c.back.new.self c.in-Some.disk place
-          (record { same = c.back.ensures.tells; places = c.back.ensures.places; asked = c.back.ensures.given; bytes = c.back.ensures.left; others = c.back.ensures.left_else }))),
+          (record { same = c.back.ensures.tells; places = c.back.ensures.places; asked = c.back.ensures.given; told = c.back.ensures.left; others = c.back.ensures.left_else }))),
     )
