@@ -1,0 +1,4 @@
+pub mod Sendings
+pub mod Rising
+pub mod Hearing
+pub mod Together

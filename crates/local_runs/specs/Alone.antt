@@ -1,0 +1,31 @@
+-- Runs of replicas by themselves, and what passed on the links between them.
+use Rattle.std.specs.Prelude.{◌≡◌, ◌≢◌, ℕ, ◌<◌, List, ◌++◌, length, map, Bool, slice_get, Some}
+use Rattle.std.specs.List.{AllByRecursion}
+use Rattle.spec_model.specs.declared.plan.Setup.{Setup}
+use Rattle.run_model.specs.declared.message.Message.{Message}
+use Rattle.run_model.specs.declared.step.StepEntry.{StepEntry}
+use Rattle.run_model.specs.Locals.{Local, first_local}
+use Rattle.run_model.specs.Runs.{entries_at}
+use Rattle.run_model.specs.Worlds.{sent_to}
+use Rattle.local_runs.specs.Handed.{Handed, HandRuns, IsRefused, sending_of, taken_from}
+
+-- replica me, up at first or not, took these steps by itself and came to stand so: it took these messages from each replica, and put those for each
+pub record RunsAlone (setup : Setup) (me : ℕ) (up : Bool) (taken put : ℕ → List Message) (entries : List StepEntry) (last : Local) : Type 0 where
+  pub steps : List Handed
+  pub are : map (λ s. s.entry) steps ≡ entries
+  pub runs : HandRuns setup me (first_local setup.replicas up) steps last
+  pub took : (from : ℕ) → taken_from from steps ≡ taken from
+  pub sent : (to : ℕ) → sent_to to last.standing.sendings ≡ map sending_of (put to)
+
+-- a front of a list
+abbrev pub IsFront : {X : Type 0} → List X → List X → Type 0
+IsFront front whole = (rest : List _) × (whole ≡ front ++ rest)
+
+-- each replica ran by itself, its entries are among these, no link was full, and from each link it took what was put there, in order, or a front of that
+pub record AreAlone (setup : Setup) (ups : List Bool) (taken put : ℕ → ℕ → List Message) (entries : List StepEntry) (lasts : List Local) : Type 0 where
+  pub all : length ups ≡ setup.replicas
+  pub whole : length lasts ≡ setup.replicas
+  pub within : AllByRecursion (λ e. e.replica < setup.replicas) entries
+  pub each : (me : ℕ) (up : Bool) (l : Local) → slice_get ups me ≡ Some up → slice_get lasts me ≡ Some l → RunsAlone setup me up (taken me) (put me) (entries_at me entries) l
+  pub passed : (me from : ℕ) → me < setup.replicas → from < setup.replicas → from ≢ me → IsFront (taken me from) (put from me)
+  pub never_full : AllByRecursion (λ e. (to : ℕ) → IsRefused to e → ⊥) entries

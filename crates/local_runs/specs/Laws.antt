@@ -1,0 +1,26 @@
+-- Runs of replicas by themselves are one run.
+use Rattle.std.specs.Prelude.{◌≡◌, ℕ, ◌≤◌, List, Bool, slice_get, Some}
+use Rattle.std.specs.List.{AllByRecursion}
+use Rattle.spec_model.specs.declared.plan.Setup.{Setup}
+use Rattle.run_model.specs.declared.message.Message.{Message}
+use Rattle.run_model.specs.declared.step.StepEntry.{StepEntry}
+use Rattle.run_model.specs.Locals.{Local, StandsIn}
+use Rattle.run_model.specs.Runs.{InOrder, Runs}
+use Rattle.run_model.specs.Sound.{IsSettled}
+use Rattle.run_model.specs.Worlds.{World, first_world}
+use Rattle.local_runs.specs.Alone.{AreAlone, RunsAlone}
+
+-- the world of a run, in which the replicas stand so
+pub record AreOneRun (setup : Setup) (ups : List Bool) (entries : List StepEntry) (lasts : List Local) (world : World) : Type 0 where
+  pub runs : Runs setup (first_world setup.replicas ups) entries world
+  pub stand : (me : ℕ) (l : Local) → slice_get lasts me ≡ Some l → StandsIn world me l
+
+-- what replicas did by themselves, each taking what messages it was given, is one run by a plan that is enough, where all entries stand in order, and each took a front of what was put for it: then each heeds whole what it takes
+abbrev pub AloneIsTogether : Type 0
+AloneIsTogether = (setup : Setup) (ups : List Bool) (taken put : ℕ → ℕ → List Message) (entries : List StepEntry) (lasts : List Local)
+    → IsSettled setup → setup.replicas ≤ 16 → InOrder entries → AreAlone setup ups taken put entries lasts → (world : World) × AreOneRun setup ups entries lasts world
+
+-- the entries of a replica by itself stand in order, and are its own
+abbrev pub AloneIsInOrder : Type 0
+AloneIsInOrder = (setup : Setup) (me : ℕ) (up : Bool) (taken put : ℕ → List Message) (entries : List StepEntry) (last : Local)
+    → RunsAlone setup me up taken put entries last → InOrder entries × AllByRecursion (λ e. e.replica ≡ me) entries

@@ -1,0 +1,14 @@
+//! Laws of replicas that run by themselves, for callers to cite.
+
+ghost use Rattle.local_runs.specs.Laws.{AloneIsInOrder, AloneIsTogether};
+
+/// What replicas did by themselves is one run, where all entries stand in order, and each took from
+/// each link a front of what was put there.
+pub fn alone_is_together()
+    ensures { AloneIsTogether }
+{}
+
+/// The entries of a replica by itself stand in order, and are its own.
+pub fn alone_is_in_order()
+    ensures { AloneIsInOrder }
+{}

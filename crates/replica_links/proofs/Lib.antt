@@ -1,0 +1,4 @@
+mod Lists
+mod Kept
+mod Parted
+mod Joined
