@@ -1,8 +1,10 @@
 -- The answers of the program, and why they are complete.
-use Rattle.std.proofs.Common.{◌≡◌, ◌≢◌, inl, inr, ℕ, ◌+◌, ◌≤◌, List, [], ◌∷◌, ◌++◌, length, take, drop, refl, sym, ap, subst, ◌∙◌, arith}
-use Rattle.std.specs.Prelude.{Option, Some, None, Result, Ok, Err, IsErrOf, codes}
+use Rattle.std.proofs.Common.{◌≡◌, ◌≢◌, inl, inr, ℕ, ◌+◌, ◌^◌, ◌<◌, ◌≤◌, Bool, true, false, cond, ltb, ◌&&◌, List, [], ◌∷◌, ◌++◌, length, map, get_or, take, drop, refl, sym, ap, subst, ◌∙◌, arith}
+use Rattle.std.specs.Prelude.{Option, Some, None, Result, Ok, Err, IfNone, IfSome, IsErrOf, codes, decimal}
+use Rattle.std.proofs.lemmas.Bool.{ltb-true}
+use Rattle.ind_base.specs.Numbers.{is_canonical, num_of, value_after}
 use Rattle.std.specs.Io.KnownBytes.{Appends, Consumes, IsAtEnd, Keeps}
-use Rattle.std.proofs.lemmas.List.{append-nil, take-append-drop, length-append}
+use Rattle.std.proofs.lemmas.List.{append-nil, take-append-drop, length-append, length-map}
 use Rattle.ind_io.specs.Streams.{ConsumesJust}
 use Rattle.line_text.specs.declared.cause.Cause.{Cause}
 use Rattle.line_text.specs.Lines.{lines_of}
@@ -14,7 +16,7 @@ use Rattle.scenario_text.specs.Reading.{document_of}
 use Rattle.indigo_program.specs.declared.command.Command.{Command}
 use Rattle.indigo_program.specs.declared.command.Command.TheVariants as commands
 use Rattle.request_workers.specs.Histories.{Bays}
-use Rattle.indigo_program.specs.Headline.{Stream, Failed, WasRead, IsNamed, IsReply, IsAnswerTo, IsAnswered, IsComplete, IsOwed, IsOwedBy, IsRunAnswer, Makes, Succeeds, input_limit}
+use Rattle.indigo_program.specs.Headline.{Stream, Failed, WasRead, WasBegun, AreKnown, AsksSoak, IsNamed, IsReply, IsSoaked, IsSoakOwed, IsAnswerTo, IsAnswered, IsComplete, IsOwed, IsOwedBy, IsRunAnswer, Makes, Succeeds, input_limit}
 use Rattle.indigo_program.specs.Inputs.{IsInputOf, IsOfClients, Refuses, document_before}
 use Rattle.std.specs.List.{find}
 use Rattle.spec_model.specs.declared.plan.Plan.{Plan}
@@ -71,7 +73,7 @@ finished words source sink bays status result text put reply is (inr w) =
 pub reply_read : (words : List (List ℕ)) (command : Command) (source : Stream) (bays : Bays) (bytes given text : List ℕ) (status : ℕ) → IsNamed words command → Consumes source.before source.after bytes → IsAtEnd source.after → length bytes ≤ input_limit → given ≡ bytes
     → IsAnswerTo command given status text bays → IsReply words source bays status text
 reply_read words command source bays bytes given text status named all end short is answer =
-    inr (command, named, inr (inr (record { bytes = bytes; all = all; end = end; short = short; holds = subst (λ (b : List ℕ). IsAnswerTo command b status text bays) is answer })))
+    inr (inl (command, named, inr (inr (record { bytes = bytes; all = all; end = end; short = short; holds = subst (λ (b : List ℕ). IsAnswerTo command b status text bays) is answer }))))
 
 -- the first letter
 abbrev letter : List (List ℕ) → ℕ
@@ -101,7 +103,23 @@ one_command words commands.Print commands.Simulate h k = letters_differ 112 115 
 one_command words commands.Print commands.Analyse h k = letters_differ 112 97 (ap letter (sym h ∙ k)) (omega arith)
 one_command words commands.Print commands.Check h k = letters_differ 112 99 (ap letter (sym h ∙ k)) (omega arith)
 
+-- no words name a command and ask for a soak
+no_both : (words : List (List ℕ)) (command : Command) (seed : ℕ) → IsNamed words command → AsksSoak words seed → ⊥
+no_both words commands.Simulate seed h k = absurd (omega (arith, ap length (sym h ∙ k.are)))
+no_both words commands.Analyse seed h k = absurd (omega (arith, ap length (sym h ∙ k.are)))
+no_both words commands.Check seed h k = absurd (omega (arith, ap length (sym h ∙ k.are)))
+no_both words commands.Print seed h k = absurd (omega (arith, ap length (sym h ∙ k.are)))
+
 -- ---- completeness
+
+-- words that neither name a command nor ask for a soak
+pub not_known : (words : List (List ℕ)) → ((command : Command) → IsNamed words command → ⊥) → ((seed : ℕ) → AsksSoak words seed → ⊥) → AreKnown words → ⊥
+not_known words command soak (inl named) = command named.0 named.1
+not_known words command soak (inr asked) = soak asked.0 asked.1
+
+-- the summary of a soak, for which nothing was read
+pub soak_read : (words : List (List ℕ)) (seed : ℕ) (source : Stream) (bays : Bays) (text : List ℕ) → AsksSoak words seed → IsSoaked seed text bays → Keeps source.before source.after → IsReply words source bays 0 text
+soak_read words seed source bays text asks soaked same = inr (inr (seed, asks, refl, soaked, same))
 
 -- what was read to its end is all that was told
 all_read : (before after : Option (List ℕ)) (told bytes : List ℕ) → before ≡ Some told → Consumes before after bytes → IsAtEnd after → bytes ≡ told
@@ -153,9 +171,9 @@ success_input commands.Print bytes h = h
 
 makes_input : (command : Command) (bytes text : List ℕ) (status : ℕ) (bays : Bays) → Makes command bytes status text bays → IsInputOf command bytes
 makes_input commands.Simulate bytes text status bays made = (made.document, made.orders, made.taken)
-makes_input commands.Analyse bytes text status bays made = (made.document, made.read)
-makes_input commands.Check bytes text status bays made = (made.document, made.read)
-makes_input commands.Print bytes text status bays (is, printed) = (printed.document, printed.read)
+makes_input commands.Analyse bytes text status bays (made, alone) = (made.document, made.read)
+makes_input commands.Check bytes text status bays (made, alone) = (made.document, made.read)
+makes_input commands.Print bytes text status bays (is, printed, alone) = (printed.document, printed.read)
 
 -- ---- which status is owed
 
@@ -186,7 +204,7 @@ analysis_zero spec status text (inr none) = planless_zero spec status text none
 
 run_zero : (d : Document) (orders : List Order) (status : ℕ) (text : List ℕ) (bays : Bays) → IsRunAnswer d orders status text bays → IsZeroWhere (HasPlan d.spec) status
 run_zero d orders status text bays (inl (is, trace)) = is_zero (HasPlan d.spec) status trace.certified.has is
-run_zero d orders status text bays (inr none) = planless_zero d.spec status text none
+run_zero d orders status text bays (inr (none, alone)) = planless_zero d.spec status text none
 
 same_parts : (r : Read) (plan given : Plan) (certificate other : Certificate) → r ≡ reads.Parts plan certificate → r ≡ reads.Parts given other → (plan ≡ given) × (certificate ≡ other)
 same_parts r plan given certificate other first second = let both = sym first ∙ second in (cc, cc)
@@ -218,22 +236,22 @@ makes_zero commands.Simulate bytes text status bays made =
       zero_if = λ (d, orders, run, plan). h.zero_if (subst (λ (x : Document). HasPlan x.spec) (one_document (document_of bytes) d made.document run.read made.taken.read) plan);
       only_if = λ is. (made.document, made.orders, made.taken, h.only_if is);
     }
-makes_zero commands.Analyse bytes text status bays made =
+makes_zero commands.Analyse bytes text status bays (made, alone) =
     let h = analysis_zero made.document.spec status text made.answer in
     record {
       zero_if = λ (d, read, plan). h.zero_if (subst (λ (x : Document). HasPlan x.spec) (one_document (document_of bytes) d made.document read made.read) plan);
       only_if = λ is. (made.document, made.read, h.only_if is);
     }
-makes_zero commands.Check bytes text status bays made =
+makes_zero commands.Check bytes text status bays (made, alone) =
     let h = check_zero made.document.spec (length (document_lines (lines_of bytes))) (plan_lines (lines_of bytes)) status text made.answer in
     record {
       zero_if = λ (d, read, good). h.zero_if (subst (λ (x : Document). HasYes x.spec (plan_lines (lines_of bytes))) (one_document (document_before bytes) d made.document read made.read) good);
       only_if = λ is. (made.document, made.read, h.only_if is);
     }
-makes_zero commands.Print bytes text status bays (is, printed) = is_zero (Succeeds commands.Print bytes) status (printed.document, printed.read) is
+makes_zero commands.Print bytes text status bays (is, printed, alone) = is_zero (Succeeds commands.Print bytes) status (printed.document, printed.read) is
 
 owed_answer : (command : Command) (bytes text : List ℕ) (status : ℕ) (bays : Bays) → IsAnswerTo command bytes status text bays → IsOwedBy command bytes status
-owed_answer command bytes text status bays (inl (is, refused)) = record {
+owed_answer command bytes text status bays (inl (is, refused, alone)) = record {
   other = λ no_input. inl is;
   succeeds = λ h. absurd (input_whole command bytes refused.line refused.cause refused.refused (success_input command bytes h));
   fails = λ no_success zero. absurd (omega (arith, is, zero));
@@ -249,35 +267,100 @@ owed_answer command bytes text status bays (inr made) =
 owed_reply : (words : List (List ℕ)) (source : Stream) (bays : Bays) (told text : List ℕ) (status : ℕ) → source.before ≡ Some told → (Failed source → ⊥) → IsReply words source bays status text → IsOwed words told status
 owed_reply words source bays told text status is whole (inl bad) = record {
   other_words = λ other. bad.0;
-  long = λ command named over. absurd (bad.2 command named);
-  short = λ command named within. absurd (bad.2 command named);
+  long = λ command named over. absurd (bad.2 (inl (command, named)));
+  short = λ command named within. absurd (bad.2 (inl (command, named)));
 }
-owed_reply words source bays told text status is whole (inr (command, named, inl fault)) = absurd (whole fault.2)
-owed_reply words source bays told text status is whole (inr (command, named, inr (inl long))) =
+owed_reply words source bays told text status is whole (inr (inl (command, named, inl fault))) = absurd (whole fault.2)
+owed_reply words source bays told text status is whole (inr (inl (command, named, inr (inl long)))) =
     let over = taken_within source.before source.after told (input_limit + 1) is long.2 in
     record {
-      other_words = λ other. absurd (other command named);
+      other_words = λ other. absurd (other (inl (command, named)));
       long = λ again named' more. inl long.0;
       short = λ again named' within. absurd (omega (arith, over, within));
     }
-owed_reply words source bays told text status is whole (inr (command, named, inr (inr read))) =
+owed_reply words source bays told text status is whole (inr (inl (command, named, inr (inr read)))) =
     let h = read_told source told (λ bytes. IsAnswerTo command bytes status text bays) is read in
     record {
-      other_words = λ other. absurd (other command named);
+      other_words = λ other. absurd (other (inl (command, named)));
       long = λ again named' more. absurd (omega (arith, h.1, more));
       short = λ again named' within. subst (λ c. IsOwedBy c told status) (one_command words command again named named') (owed_answer command told text status bays h.0);
     }
+owed_reply words source bays told text status is whole (inr (inr soak)) = record {
+  other_words = λ other. absurd (other (inr (soak.0, soak.1)));
+  long = λ command named more. absurd (no_both words command soak.0 named soak.1);
+  short = λ command named within. absurd (no_both words command soak.0 named soak.1);
+}
+
+owed_known : (words : List (List ℕ)) (source : Stream) (bays : Bays) (told : List ℕ) → WasBegun words source bays → IsOwed words told 9
+owed_known words source bays told begun = record {
+  other_words = λ other. absurd (other (known begun));
+  long = λ command named more. inr refl;
+  short = λ command named within. record { other = λ no_input. inr refl; succeeds = λ success. inr refl; fails = λ no_success zero. absurd (omega (arith, zero)) };
+}
+  where
+    known : WasBegun words source bays → AreKnown words
+    known (inl read) = inl (read.0, read.1)
+    known (inr soak) = inr (soak.0, soak.1)
 
 pub complete : (words : List (List ℕ)) (source sink : Stream) (bays : Bays) (status : ℕ) → IsAnswered words source sink bays status → IsComplete words source sink status
 complete words source sink bays status (inl written) = λ told is whole out. owed_reply words source bays told written.text status is whole written.reply
 complete words source sink bays status (inr (inl cut)) = λ told is whole out. absurd (out cut.1.failed)
-complete words source sink bays status (inr (inr memory)) = λ told is whole out. record {
-  other_words = λ other. absurd (other memory.1.0 memory.1.1);
-  long = λ command named more. inr memory.0;
-  short = λ command named within. record { other = λ no_input. inr memory.0; succeeds = λ success. inr memory.0; fails = λ no_success zero. absurd (omega (arith, memory.0, zero)) };
-}
+complete words source sink bays status (inr (inr memory)) = λ told is whole out. subst (IsOwed words told) (sym memory.0) (owed_known words source bays told memory.1)
+
+soak_reply : (words : List (List ℕ)) (source : Stream) (bays : Bays) (seed : ℕ) (text : List ℕ) (status : ℕ) → AsksSoak words seed → IsReply words source bays status text → status ≡ 0
+soak_reply words source bays seed text status asks (inl bad) = absurd (bad.2 (inr (seed, asks)))
+soak_reply words source bays seed text status asks (inr (inl (command, named, reply))) = absurd (no_both words command seed named asks)
+soak_reply words source bays seed text status asks (inr (inr soak)) = soak.2
+
+pub soak_complete : (words : List (List ℕ)) (source sink : Stream) (bays : Bays) (status : ℕ) → IsAnswered words source sink bays status → IsSoakOwed words sink status
+soak_complete words source sink bays status (inl written) = λ seed asks out. inl (soak_reply words source bays seed written.text status asks written.reply)
+soak_complete words source sink bays status (inr (inl cut)) = λ seed asks out. absurd (out cut.1.failed)
+soak_complete words source sink bays status (inr (inr memory)) = λ seed asks out. inr memory.0
 
 -- ---- words
+
+first_of_two : (a b c d : List ℕ) → a ∷ b ∷ [] ≡ c ∷ d ∷ [] → a ≡ c
+first_of_two a b c d e = cc
+
+second_of_two : (a b c d : List ℕ) → a ∷ b ∷ [] ≡ c ∷ d ∷ [] → b ≡ d
+second_of_two a b c d e = cc
+
+-- a number that is read has at most 64 bits
+small_where : (canonical small : Bool) (v n : ℕ) → ltb v (2 ^ 64) ≡ small → cond (canonical && small) (Some v) None ≡ Some n → n < 2 ^ 64
+small_where true true v n is e = let same : v ≡ n = cc in subst (λ (m : ℕ). m < 2 ^ 64) same (ltb-true v (2 ^ 64) is)
+small_where true false v n is e = absurd cc
+small_where false small v n is e = absurd cc
+
+num_small : (text : List ℕ) (n : ℕ) → num_of text ≡ Some n → n < 2 ^ 64
+num_small text n e = small_where (is_canonical text) (ltb (value_after 0 text) (2 ^ 64)) (value_after 0 text) n refl e
+
+-- a word and digits that ask for a soak
+pub seed_some : (word digits : List ℕ) (result : Option ℕ) → word ≡ codes "soak" → result ≡ num_of digits → IfSome result (λ n. digits ≡ decimal n) → IfSome result (λ seed. AsksSoak (word ∷ digits ∷ []) seed)
+seed_some word digits None is value number = tt
+seed_some word digits (Some n) is value number = record {
+  small = num_small digits n (sym value);
+  are = ap (λ (w : List ℕ). w ∷ digits ∷ []) is ∙ ap (λ (ds : List ℕ). codes "soak" ∷ ds ∷ []) number;
+}
+
+-- digits that are no number ask for none
+pub seed_none : (word digits : List ℕ) (result : Option ℕ) → IfNone result ((n : ℕ) → n < 2 ^ 64 → digits ≡ decimal n → ⊥) → IfNone result ((seed : ℕ) → AsksSoak (word ∷ digits ∷ []) seed → ⊥)
+seed_none word digits None none = λ seed asks. none seed asks.small (second_of_two _ _ _ _ asks.are)
+seed_none word digits (Some n) none = tt
+
+-- nor does another word
+pub seed_other : (word digits : List ℕ) → (word ≡ codes "soak" → ⊥) → (seed : ℕ) → AsksSoak (word ∷ digits ∷ []) seed → ⊥
+seed_other word digits other seed asks = other (first_of_two _ _ _ _ asks.are)
+
+pub two_words : {X : Type 0} (f : X → List ℕ) (words : List X) (w v : X) (a b : List ℕ) → 2 ≤ length words → length words < 3 → w ≡ get_or words 0 w → v ≡ get_or words 1 v → a ≡ f w → b ≡ f v → map f words ≡ a ∷ b ∷ []
+two_words f [] w v a b some few first second a_is b_is = absurd (omega (arith, some))
+two_words f (x ∷ []) w v a b some few first second a_is b_is = absurd (omega (arith, some))
+two_words f (x ∷ y ∷ []) w v a b some few first second a_is b_is =
+    ap (λ (z : _). f z ∷ f y ∷ []) (sym first) ∙ ap (λ (z : _). f w ∷ f z ∷ []) (sym second) ∙ ap (λ (t : List ℕ). t ∷ f v ∷ []) (sym a_is) ∙ ap (λ (t : List ℕ). a ∷ t ∷ []) (sym b_is)
+two_words f (x ∷ y ∷ z ∷ words) w v a b some few first second a_is b_is = absurd (omega (arith, few))
+
+-- a soak has two words
+pub asks_two : {X : Type 0} (f : X → List ℕ) (words : List X) (seed : ℕ) → AsksSoak (map f words) seed → length words ≡ 2
+asks_two f words seed asks = sym (length-map words f) ∙ ap length asks.are
 
 pub no_command : (words : List (List ℕ)) → (words ≡ codes "simulate" ∷ [] → ⊥) → (words ≡ codes "analyse" ∷ [] → ⊥) → (words ≡ codes "check" ∷ [] → ⊥) → (words ≡ codes "print" ∷ [] → ⊥) → (command : Command) → IsNamed words command → ⊥
 no_command words simulate analyse check print commands.Simulate named = simulate named

@@ -1,5 +1,5 @@
 -- What the program answers.
-use Rattle.std.specs.Prelude.{◌≡◌, ◌⊎◌, ℕ, ◌+◌, ◌≤◌, ◌<◌, Bool, IsTrue, List, [], ◌∷◌, ◌++◌, length, codes, Ok, Some}
+use Rattle.std.specs.Prelude.{◌≡◌, ◌⊎◌, ℕ, ◌+◌, ◌^◌, ◌≤◌, ◌<◌, Bool, IsTrue, List, [], ◌∷◌, ◌++◌, length, codes, decimal, Ok, Some}
 use Rattle.std.specs.declared.option.Option.{Option}
 use Rattle.std.specs.Io.KnownBytes.{Appends, Consumes, IsAtEnd, Keeps}
 use Rattle.ind_io.specs.Causes.{Rose}
@@ -20,6 +20,8 @@ use Rattle.scenario_text.specs.declared.document.Document.{Document}
 use Rattle.scenario_text.specs.declared.document.StopLine.{StopLine}
 use Rattle.scenario_text.specs.Reading.{IsDocument, document_of}
 use Rattle.scenario_text.specs.Saying.{document_text}
+use Rattle.soak_documents.specs.Generating.{generated, schedule_of}
+use Rattle.soak_documents.specs.Summary.{soak_text}
 use Rattle.indigo_program.specs.declared.command.Command.{Command}
 use Rattle.indigo_program.specs.declared.command.Command.TheVariants as commands
 use Rattle.indigo_program.specs.CauseTexts.{refusal_text}
@@ -51,9 +53,20 @@ pub record IsTrace (document : Document) (orders : List Order) (text : List ℕ)
   pub certified : IsCertified document.spec certificate
   pub trace : IsLegalTrace (setup_of document.spec document.replicas) document.stops orders text bays
 
+-- what the bay tells is as it was: no disk was asked for, and none came back
+abbrev pub IsLeftAlone : Bays → Type 0
+IsLeftAlone bays = ((r : ℕ) → bays.given_after r ≡ bays.given_before r) × ((r : ℕ) → bays.left_after r ≡ bays.left_before r)
+
+-- a command that runs nothing leaves the bay alone
+abbrev pub LeavesAlone : Command → Bays → Type 0
+LeavesAlone commands.Simulate bays = Unit {0}
+LeavesAlone commands.Analyse bays = IsLeftAlone bays
+LeavesAlone commands.Check bays = IsLeftAlone bays
+LeavesAlone commands.Print bays = IsLeftAlone bays
+
 -- what is answered to a schedule: such a trace, or why there is no plan
 abbrev pub IsRunAnswer : Document → List Order → ℕ → List ℕ → Bays → Type 0
-IsRunAnswer document orders status text bays = ((status ≡ 0) × IsTrace document orders text bays) ⊎ IsPlanless document.spec status text
+IsRunAnswer document orders status text bays = ((status ≡ 0) × IsTrace document orders text bays) ⊎ (IsPlanless document.spec status text × IsLeftAlone bays)
 
 -- the bytes are a document with a schedule, and this is answered to that
 pub record IsSimulated (bytes : List ℕ) (status : ℕ) (text : List ℕ) (bays : Bays) : Type 0 where
@@ -83,9 +96,15 @@ pub record IsChecked (bytes : List ℕ) (status : ℕ) (text : List ℕ) : Type 
 -- what a command makes of an input that it is for
 abbrev pub Makes : Command → List ℕ → ℕ → List ℕ → Bays → Type 0
 Makes commands.Simulate bytes status text bays = IsSimulated bytes status text bays
-Makes commands.Analyse bytes status text bays = IsAnalysed bytes status text
-Makes commands.Check bytes status text bays = IsChecked bytes status text
-Makes commands.Print bytes status text bays = (status ≡ 0) × IsPrinted bytes text
+Makes commands.Analyse bytes status text bays = IsAnalysed bytes status text × IsLeftAlone bays
+Makes commands.Check bytes status text bays = IsChecked bytes status text × IsLeftAlone bays
+Makes commands.Print bytes status text bays = (status ≡ 0) × IsPrinted bytes text × IsLeftAlone bays
+
+-- the text is the summary of a run of the document of a seed, just as a simulation of that document would trace it
+pub record IsSoaked (seed : ℕ) (text : List ℕ) (bays : Bays) : Type 0 where
+  pub trace : List ℕ
+  pub run : IsTrace (generated seed) (schedule_of seed) trace bays
+  pub written : text ≡ soak_text seed run.trace.entries
 
 -- the text names the line that the command refuses, and why
 pub record IsRefused (command : Command) (bytes text : List ℕ) : Type 0 where
@@ -124,22 +143,32 @@ IsNamed words commands.Analyse = words ≡ codes "analyse" ∷ []
 IsNamed words commands.Check = words ≡ codes "check" ∷ []
 IsNamed words commands.Print = words ≡ codes "print" ∷ []
 
+-- the words that ask for the soak of a seed
+pub record AsksSoak (words : List (List ℕ)) (seed : ℕ) : Type 0 where
+  pub small : seed < 2 ^ 64
+  pub are : words ≡ codes "soak" ∷ decimal seed ∷ []
+
+-- words that ask for something
+abbrev pub AreKnown : List (List ℕ) → Type 0
+AreKnown words = ((command : Command) × IsNamed words command) ⊎ ((seed : ℕ) × AsksSoak words seed)
+
 -- the status and the text that a command has for an input
 abbrev pub IsAnswerTo : Command → List ℕ → ℕ → List ℕ → Bays → Type 0
-IsAnswerTo command bytes status text bays = ((status ≡ 3) × IsRefused command bytes text) ⊎ Makes command bytes status text bays
+IsAnswerTo command bytes status text bays = ((status ≡ 3) × IsRefused command bytes text × IsLeftAlone bays) ⊎ Makes command bytes status text bays
 
 -- the status and the text for an input that came: it failed within the limit, was too long, or was read
 abbrev pub IsReplyOf : Command → Stream → Bays → ℕ → List ℕ → Type 0
 IsReplyOf command source bays status text =
-    ((status ≡ 4) × (text ≡ codes "read fault\n") × Failed source × ConsumesWithin source.before source.after input_limit)
-    ⊎ ((status ≡ 6) × (text ≡ codes "input too long\n") × ConsumesJust source.before source.after (input_limit + 1))
+    ((status ≡ 4) × (text ≡ codes "read fault\n") × Failed source × ConsumesWithin source.before source.after input_limit × IsLeftAlone bays)
+    ⊎ ((status ≡ 6) × (text ≡ codes "input too long\n") × ConsumesJust source.before source.after (input_limit + 1) × IsLeftAlone bays)
     ⊎ WasRead source (λ bytes. IsAnswerTo command bytes status text bays)
 
--- the status and the text for words and an input; for other words nothing is read
+-- the status and the text for words and an input; for a soak and for other words nothing is read
 abbrev pub IsReply : List (List ℕ) → Stream → Bays → ℕ → List ℕ → Type 0
 IsReply words source bays status text =
-    ((status ≡ 2) × (text ≡ codes "bad words\n") × ((command : Command) → IsNamed words command → ⊥) × Keeps source.before source.after)
+    ((status ≡ 2) × (text ≡ codes "bad words\n") × (AreKnown words → ⊥) × Keeps source.before source.after × IsLeftAlone bays)
     ⊎ ((command : Command) × IsNamed words command × IsReplyOf command source bays status text)
+    ⊎ ((seed : ℕ) × AsksSoak words seed × (status ≡ 0) × IsSoaked seed text bays × Keeps source.before source.after)
 
 -- the whole text is out
 pub record IsWritten (words : List (List ℕ)) (source sink : Stream) (bays : Bays) (status : ℕ) : Type 0 where
@@ -158,12 +187,18 @@ pub record IsCutOff (words : List (List ℕ)) (source sink : Stream) (bays : Bay
   pub parts : text ≡ front ++ behind
   pub out : Appends sink.before sink.after front
 
--- what the program answers: 5 where the sink failed, 9 where memory was wanting for a command and nothing is written, else a reply
+-- what words ask for was begun: at most a little more than the longest input was read for a command, and nothing for a soak
+abbrev pub WasBegun : List (List ℕ) → Stream → Bays → Type 0
+WasBegun words source bays =
+    ((command : Command) × IsNamed words command × ConsumesWithin source.before source.after (input_limit + 1) × LeavesAlone command bays)
+    ⊎ ((seed : ℕ) × AsksSoak words seed × Keeps source.before source.after)
+
+-- what the program answers: 5 where the sink failed, 9 where memory was wanting for what words ask for and nothing is written, else a reply
 abbrev pub IsAnswered : List (List ℕ) → Stream → Stream → Bays → ℕ → Type 0
 IsAnswered words source sink bays status =
     IsWritten words source sink bays status
     ⊎ ((status ≡ 5) × IsCutOff words source sink bays)
-    ⊎ ((status ≡ 9) × ((command : Command) × IsNamed words command) × ConsumesWithin source.before source.after (input_limit + 1) × Keeps sink.before sink.after)
+    ⊎ ((status ≡ 9) × WasBegun words source bays × Keeps sink.before sink.after)
 
 -- the inputs for which a command succeeds: a schedule that is run and a specification that has a plan, such a specification alone, a plan with a certificate that checks, a document
 abbrev pub Succeeds : Command → List ℕ → Type 0
@@ -180,10 +215,14 @@ pub record IsOwedBy (command : Command) (bytes : List ℕ) (status : ℕ) : Type
 
 -- the answer that is owed to an input that the source tells, where nothing fails: by its words, its length and its lines
 pub record IsOwed (words : List (List ℕ)) (bytes : List ℕ) (status : ℕ) : Type 0 where
-  pub other_words : ((command : Command) → IsNamed words command → ⊥) → status ≡ 2
+  pub other_words : (AreKnown words → ⊥) → status ≡ 2
   pub long : (command : Command) → IsNamed words command → input_limit < length bytes → (status ≡ 6) ⊎ (status ≡ 9)
   pub short : (command : Command) → IsNamed words command → length bytes ≤ input_limit → IsOwedBy command bytes status
 
 abbrev pub IsComplete : List (List ℕ) → Stream → Stream → ℕ → Type 0
 IsComplete words source sink status =
     (bytes : List ℕ) → source.before ≡ Some bytes → (Failed source → ⊥) → (Failed sink → ⊥) → IsOwed words bytes status
+
+-- what is owed to a soak, whatever the source: its summary, where memory isn't wanting and the sink doesn't fail
+abbrev pub IsSoakOwed : List (List ℕ) → Stream → ℕ → Type 0
+IsSoakOwed words sink status = (seed : ℕ) → AsksSoak words seed → (Failed sink → ⊥) → (status ≡ 0) ⊎ (status ≡ 9)

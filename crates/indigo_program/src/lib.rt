@@ -4,6 +4,7 @@
 
 mod command;
 mod reply;
+mod soak;
 mod top;
 mod words;
 

@@ -1,6 +1,6 @@
 //! What each command answers to an input that was read.
 
-ghost use Rattle.std.specs.Prelude.{◌≡◌, ◌<◌, ◌≤◌, ◌++◌, IfOk, Ok, OnOk, codes, length};
+ghost use Rattle.std.specs.Prelude.{◌≡◌, ◌<◌, ◌≤◌, ◌++◌, IfOk, Ok, OnErr, OnOk, codes, length};
 ghost use Rattle.spec_model.specs.Fits.{IsWellFormed};
 ghost use Rattle.run_model.specs.Sound.{IsSettled};
 ghost use Rattle.reservation_plan.specs.Derived.{derived_plan};
@@ -11,7 +11,7 @@ ghost use Rattle.scenario_text.specs.WellFormed.{IsWellFormedDocument, ScheduleF
 ghost use Rattle.line_text.specs.Lines.{lines_of};
 ghost use Rattle.plan_answers.specs.Checking as checks;
 ghost use Rattle.indigo_program.specs.CauseTexts.{cause_text, refusal_text};
-ghost use Rattle.indigo_program.specs.Headline.{IsAnswerTo, IsLegalTrace, IsRunAnswer, input_limit};
+ghost use Rattle.indigo_program.specs.Headline.{IsAnswerTo, IsLeftAlone, IsLegalTrace, IsRunAnswer, LeavesAlone, input_limit};
 ghost use Rattle.indigo_program.specs.declared.command.Command.TheVariants as commands;
 
 use crate::command::Command;
@@ -73,7 +73,7 @@ fn trace<B: Bay>(
     requires few { setup.now.replicas ≤ 8 }
     requires schedule { ScheduleFits setup.now.spec setup.now.replicas orders.now }
     ensures { IfOk result (λ text. IsLegalTrace setup.now stops.now orders.now text
-        (record { tells = B.tells bay.old; given_before = B.given bay.old; given_after = B.given bay.new; left = B.left bay.new })) }
+        (record { tells = B.tells bay.old; given_before = B.given bay.old; given_after = B.given bay.new; left_before = B.left bay.old; left_after = B.left bay.new })) }
 {
     let histories = simulate(alloc, setup, stops, orders, bay)?;
     trace_text(alloc, &setup.spec, histories.as_slice())
@@ -93,7 +93,7 @@ fn run_by_plan<B: Bay>(
     requires few { replicas ≤ 8 }
     requires schedule { ScheduleFits spec replicas orders.now }
     ensures { (document : DocumentOf) → document.spec ≡ spec → document.replicas ≡ replicas → document.stops ≡ stops.now → IfOk result (λ reply. IsRunAnswer document orders.now reply.status reply.text
-        (record { tells = B.tells bay.old; given_before = B.given bay.old; given_after = B.given bay.new; left = B.left bay.new })) }
+        (record { tells = B.tells bay.old; given_before = B.given bay.old; given_after = B.given bay.new; left_before = B.left bay.old; left_after = B.left bay.new })) }
 {
     let plan = match analyse(alloc, &spec)? {
         Analysis::Planned(analysed) => analysed.plan,
@@ -121,7 +121,7 @@ fn run<B: Bay>(
     requires formed { IsWellFormedDocument document }
     requires short { length bytes.now ≤ input_limit }
     ensures { IfOk result (λ reply. IsAnswerTo commands.Simulate bytes.now reply.status reply.text
-        (record { tells = B.tells bay.old; given_before = B.given bay.old; given_after = B.given bay.new; left = B.left bay.new })) }
+        (record { tells = B.tells bay.old; given_before = B.given bay.old; given_after = B.given bay.new; left_before = B.left bay.old; left_after = B.left bay.new })) }
 {
     let Document {
         spec,
@@ -148,7 +148,7 @@ fn run<B: Bay>(
 fn simulated<B: Bay>(alloc: Global, bytes: &[u8], bay: &mut B) -> Result<Answer, NoMemory>
     requires { length bytes.now ≤ input_limit }
     ensures { IfOk result (λ reply. IsAnswerTo commands.Simulate bytes.now reply.status reply.text
-        (record { tells = B.tells bay.old; given_before = B.given bay.old; given_after = B.given bay.new; left = B.left bay.new })) }
+        (record { tells = B.tells bay.old; given_before = B.given bay.old; given_after = B.given bay.new; left_before = B.left bay.old; left_after = B.left bay.new })) }
 {
     match parse_document(alloc, bytes) {
         Ok(document) => run(alloc, bytes, document, bay),
@@ -159,7 +159,7 @@ fn simulated<B: Bay>(alloc: Global, bytes: &[u8], bay: &mut B) -> Result<Answer,
 
 fn printed(alloc: Global, bytes: &[u8]) -> Result<Answer, NoMemory>
     requires { length bytes.now ≤ input_limit }
-    ensures { (bays : BaysOf) → IfOk result (λ reply. IsAnswerTo commands.Print bytes.now reply.status reply.text bays) }
+    ensures { (bays : BaysOf) → IsLeftAlone bays → IfOk result (λ reply. IsAnswerTo commands.Print bytes.now reply.status reply.text bays) }
 {
     match parse_document(alloc, bytes) {
         Ok(document) => Ok(Answer {
@@ -173,7 +173,7 @@ fn printed(alloc: Global, bytes: &[u8]) -> Result<Answer, NoMemory>
 
 fn analysed(alloc: Global, bytes: &[u8]) -> Result<Answer, NoMemory>
     requires { length bytes.now ≤ input_limit }
-    ensures { (bays : BaysOf) → IfOk result (λ reply. IsAnswerTo commands.Analyse bytes.now reply.status reply.text bays) }
+    ensures { (bays : BaysOf) → IsLeftAlone bays → IfOk result (λ reply. IsAnswerTo commands.Analyse bytes.now reply.status reply.text bays) }
 {
     match parse_document(alloc, bytes) {
         Ok(document) => analyse_answer(alloc, &document.spec),
@@ -199,7 +199,7 @@ fn verdict(
 
 fn checked(alloc: Global, bytes: &[u8]) -> Result<Answer, NoMemory>
     requires { length bytes.now ≤ input_limit }
-    ensures { (bays : BaysOf) → IfOk result (λ reply. IsAnswerTo commands.Check bytes.now reply.status reply.text bays) }
+    ensures { (bays : BaysOf) → IsLeftAlone bays → IfOk result (λ reply. IsAnswerTo commands.Check bytes.now reply.status reply.text bays) }
 {
     let (front, plan) = split_at_plan(bytes);
     match parse_document(alloc, front) {
@@ -217,8 +217,10 @@ pub(crate) fn make_reply<B: Bay>(
     bay: &mut B,
 ) -> Result<Answer, NoMemory>
     requires { length bytes.now ≤ input_limit }
-    ensures { IfOk result (λ reply. IsAnswerTo command bytes.now reply.status reply.text
-        (record { tells = B.tells bay.old; given_before = B.given bay.old; given_after = B.given bay.new; left = B.left bay.new })) }
+    ensures answer { IfOk result (λ reply. IsAnswerTo command bytes.now reply.status reply.text
+        (record { tells = B.tells bay.old; given_before = B.given bay.old; given_after = B.given bay.new; left_before = B.left bay.old; left_after = B.left bay.new })) }
+    ensures memory { OnErr result (LeavesAlone command
+        (record { tells = B.tells bay.old; given_before = B.given bay.old; given_after = B.given bay.new; left_before = B.left bay.old; left_after = B.left bay.new })) }
 {
     match command {
         Command::Simulate => simulated(alloc, bytes, bay),

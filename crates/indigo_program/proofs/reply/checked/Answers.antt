@@ -10,6 +10,6 @@ pub verdict-requires-clause-short : goal.verdict-requires-clause-short
 verdict-requires-clause-short c = omega (arith, c.split_at_plan.ensures.rest_short, c.requires)
 
 pub returns-in-Ok : goal.returns-in-Ok
-returns-in-Ok c = λ bays.
+returns-in-Ok c = λ bays alone.
     checked_answer c.args.bytes.now c.split_at_plan.result.0.now c.split_at_plan.result.1.now c.in-Ok.document c.line_count.result bays c.verdict.result
-    c.split_at_plan.ensures.front c.split_at_plan.ensures.rest c.in-Ok.ensures.value c.line_count.ensures.value c.verdict.ensures
+    c.split_at_plan.ensures.front c.split_at_plan.ensures.rest c.in-Ok.ensures.value c.line_count.ensures.value alone c.verdict.ensures

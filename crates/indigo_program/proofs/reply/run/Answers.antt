@@ -1,11 +1,11 @@
-use Rattle.std.proofs.Common.{inl, inr, refl, sym, subst}
+use Rattle.std.proofs.Common.{inr, refl, sym, subst}
 use Rattle.indigo_program.specs.Inputs.{IsOfClients}
 use Rattle.indigo_program.proofs.Runs.{refused_answer, simulated_answer}
 use Rattle.indigo_program.proofs.reply.run.Goals as goal
 
 pub returns-in-Some : goal.returns-in-Some
 returns-in-Some g c =
-    refused_answer _ _ _ _ _ c.refused.result
+    refused_answer _ _ _ _ _ c.refused.result (λ r. refl, λ r. refl)
     (inr (record { document = c.args.document; read = c.requires.read; clients = subst IsOfClients (sym c.in-Clients.is) tt; first = sym c.in-Some.ensures.value; cause_is = refl }))
     c.refused.ensures
 

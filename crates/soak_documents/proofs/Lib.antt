@@ -1,0 +1,4 @@
+pub mod Counts
+pub mod Formed
+pub mod Sums
+pub mod Goes
