@@ -72,7 +72,19 @@ def random_stops(rnd, n):
     return lines
 
 
-def random_document(rnd):
+def random_call(rnd, spec):
+    """A request of an operation, mostly over short spans."""
+    o = rnd.choice(spec.ops)
+    args = []
+    for p in o.params:
+        size = spec.sorts[p.sort].size
+        lo = rnd.randrange(size)
+        args.append(f"{lo}-{min(size - 1, lo + rnd.choice([0, 0, 1, 2, 3]))}" if p.interval else str(lo))
+    return f"{o.name}({','.join(args)})"
+
+
+def random_spec(rnd):
+    """The lines of a specification, its sorts with their sizes, and its operations with their parameters."""
     lines, sorts = [], []
     for i in range(rnd.randint(1, 2)):
         sorts.append((f"s{i}", rnd.randint(1, 4)))
@@ -126,6 +138,11 @@ def random_document(rnd):
                 used = used or pick == "iv"
                 terms.append(pick)
             lines.append(f"{rnd.choice(['set', 'clear'])} {p}({','.join(terms)})")
+    return lines, sorts, ops
+
+
+def random_document(rnd):
+    lines, sorts, ops = random_spec(rnd)
     n = rnd.choice([1, 2, 2, 2, 3, 3, 4])
     lines.append(f"replicas {n}")
     crashes = rnd.random() < 0.5
@@ -169,13 +186,7 @@ def schedule(rnd, spec, n):
             continue
         what = rnd.choice(["do", "do", "do", "send", "take", "swap"])
         if what == "do" or n == 1:
-            o = rnd.choice(spec.ops)
-            args = []
-            for p in o.params:
-                size = spec.sorts[p.sort].size
-                lo = rnd.randrange(size)
-                args.append(f"{lo}-{min(size - 1, lo + rnd.choice([0, 0, 1, 2, 3]))}" if p.interval else str(lo))
-            lines.append(f"do {r} {o.name}({','.join(args)})")
+            lines.append(f"do {r} {random_call(rnd, spec)}")
             continue
         p = rnd.choice([i for i in range(n) if i != r])
         if what == "take" and sent.get((p, r)):

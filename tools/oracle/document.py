@@ -119,9 +119,10 @@ def check(test, cause):
 
 
 def parse(data, stop_at_plan=False):
-    """The document, as a record with spec, replicas and schedule (a list of (replica, ask, number of line)); Refused otherwise."""
+    """The document, as a record with spec, replicas, stops, and schedule (a list of (replica, ask, number of line)), or turns,
+    homes (of each client its replica) and asks (a list of (client, ask)); Refused otherwise."""
     spec = Rec(sorts=[], preds=[], nums=[], clauses=[], ops=[], free=[])
-    doc = Rec(spec=spec, replicas=None, schedule=[], stops=[], clients=[], first_client_line=None)
+    doc = Rec(spec=spec, replicas=None, schedule=[], stops=[], turns=None, homes=[], asks=[], first_client_line=None)
     rank, sends, atoms_cells, instances = 0, {}, 0, 0
     names = {}
 
@@ -139,6 +140,17 @@ def parse(data, stop_at_plan=False):
         for s in sorts:
             n *= spec.sorts[s].size
         return n
+
+    def request(place_is_right, name, args):
+        o = find("op", name)
+        params = spec.ops[o].params
+        check(len(args) == len(params) and all(isinstance(a, tuple) == p.interval for a, p in zip(args, params)), "wrong arguments")
+        spans = [a if isinstance(a, tuple) else (a, a) for a in args]
+        check(place_is_right and all(lo <= hi < spec.sorts[p.sort].size for (lo, hi), p in zip(spans, params)), "out of range")
+        return ("Do", Rec(op=o, args=spans))
+
+    def turns_asked():
+        return len(doc.asks) + 2 * (doc.turns or 0) * doc.replicas
 
     lines = split_lines(data)
     for number, raw in enumerate(lines, 1):
@@ -244,9 +256,10 @@ def parse(data, stop_at_plan=False):
             if at >= 8:
                 check(doc.replicas is not None, "out of place")
             if at == 9:
-                check(not doc.clients, "out of place")
+                check(doc.first_client_line is None, "out of place")
             if at >= 10:
-                check(not doc.schedule and not (head == "turns" and "turns" in doc.clients), "out of place")
+                check(not doc.schedule and not (head == "turns" and doc.turns is not None), "out of place")
+                doc.first_client_line = doc.first_client_line or number
             rank = at
             # names, arguments, ranges
             if head == "sort":
@@ -321,15 +334,11 @@ def parse(data, stop_at_plan=False):
                 doc.replicas = n
             elif head == "stop":
                 check(stop[0] < doc.replicas, "out of range")
+                check(len(doc.stops) < 1000, "too many")
                 doc.stops.append(stop)
             elif at == 9:
                 if head == "do":
-                    o = find("op", name)
-                    params = spec.ops[o].params
-                    check(len(args) == len(params) and all(isinstance(a, tuple) == p.interval for a, p in zip(args, params)), "wrong arguments")
-                    spans = [a if isinstance(a, tuple) else (a, a) for a in args]
-                    check(r < doc.replicas and all(lo <= hi < spec.sorts[p.sort].size for (lo, hi), p in zip(spans, params)), "out of range")
-                    ask = ("Do", Rec(op=o, args=spans))
+                    ask = request(r < doc.replicas, name, args)
                 elif head == "send":
                     check(r < doc.replicas and peer < doc.replicas and r != peer, "out of range")
                     ask = ("Send", peer, sends.get((r, peer), 0))
@@ -342,9 +351,19 @@ def parse(data, stop_at_plan=False):
                     ask = (head.capitalize(),)
                 check(len(doc.schedule) < 100000, "too many")
                 doc.schedule.append((r, ask, number))
-            else:
-                doc.clients.append(head)
-                doc.first_client_line = doc.first_client_line or number
+            elif head == "turns":
+                check(n <= 10000, "out of range")
+                doc.turns = n
+                check(turns_asked() <= 100000, "too many")
+            elif head == "client":
+                check(n == len(doc.homes) and r < doc.replicas, "out of range")
+                check(len(doc.homes) < 32, "too many")
+                doc.homes.append(r)
+            elif head == "ask":
+                ask = (name.capitalize(),) if args is None else request(r < len(doc.homes), name, args)
+                check(r < len(doc.homes), "out of range")
+                check(turns_asked() < 100000, "too many")
+                doc.asks.append((r, ask))
         except Bad as bad:
             raise Refused(3, f"line {number}: {bad}")
     else:

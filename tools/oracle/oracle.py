@@ -6,7 +6,7 @@ usage: oracle.py DOCUMENT [PLAN] [--sound] [--plan]
 Prints what `simulate` has to print, and ends with its status. DOCUMENT is a file, or - for the input. PLAN is a file with
 what `analyse` prints (only its lines `lock` and `part` are read); without it the plan is derived by brute force.
 --plan prints the plan alone. --sound also checks IsSound in the last world, over every consistent cut, and says what fails.
-Clients aren't in these definitions: the first such line is refused as the program does.
+A document with clients is refused as the program does; running.py has what they add.
 
 An own log is given to the definitions as a list; since logs only grow, what was found of a log of some length is kept, but
 forgotten where a step leaves what it drafted."""
@@ -593,7 +593,7 @@ def drafts(setup, world, me, ask, heard, stamp):
         forget(setup, p, False, None)
         outcome = ("Stopped",)
     else:
-        outcome = ("Unsent",) if heard.message is None else takes(setup, world, me, heard.message)
+        outcome = ("Idle",) if heard is None else ("Unsent",) if heard.message is None else takes(setup, world, me, heard.message)
     applied = [i for r, log in enumerate(logs_of(world)) if r != me for i in log[others[r]:p.cut[r]]]
     return outcome, applied + p.log[old:]
 
@@ -639,25 +639,29 @@ def recovers(setup, me, p):
 def answers_down(setup, me, p, ask, stamp):
     if ask[0] == "Recover":
         return recovers(setup, me, p)
-    if ask[0] == "Send":
+    if ask[0] == "Send" and ask[2] is not None:
         p.sendings.append(Rec(to=ask[1], stamp=stamp, message=None))
     return ("Down",)
 
 
 def step(setup, world, me, ask):
-    """One step; the entry is (stamp, replica, ask, outcome)."""
+    """One step; the entry is (stamp, replica, ask, outcome). Under a schedule every send and take has a number; else it has
+    None where no message is put or got, and such a send is none that a take may name."""
     p = world[me]
-    heard = [s for s in world[ask[1]].sendings if s.to == me][ask[2]] if p.up and ask[0] == "Take" else None
+    heard = [s for s in world[ask[1]].sendings if s.to == me][ask[2]] if p.up and ask[0] == "Take" and ask[2] is not None else None
     stamp = max(p.stamp, heard.stamp if heard else 0) + 1
     outcome = answers_up(setup, world, me, ask, heard, stamp) if p.up else answers_down(setup, me, p, ask, stamp)
     p.stamp = stamp
     return (stamp, me, ask, outcome)
 
 
+def merged(entries):
+    return sorted(entries, key=lambda e: e[:2])
+
+
 def run(setup, schedule):
     world = first_world(setup.replicas, setup.stops)
-    entries = [step(setup, world, me, ask) for me, ask in schedule]
-    return sorted(entries, key=lambda e: e[:2]), world
+    return merged([step(setup, world, me, ask) for me, ask in schedule]), world
 
 
 # ==== run_model: Finals, Trace
@@ -695,13 +699,18 @@ def lacking_text(spec, lacking):
     return f"short {right_text(spec, r)}{missing} need {need} have {have}"
 
 
+def ask_text(spec, ask):
+    if ask[0] == "Do":
+        return "do " + inst_text(spec, ask[1])
+    return ask[0].lower() if len(ask) == 1 else f"{ask[0].lower()} r{ask[1]} {'-' if ask[2] is None else ask[2]}"
+
+
 def entry_text(spec, entry):
     stamp, me, ask, o = entry
-    asked = "do " + inst_text(spec, ask[1]) if ask[0] == "Do" else ask[0].lower() if len(ask) == 1 else f"{ask[0].lower()} r{ask[1]} {ask[2]}"
     got = {"Done": lambda: f"done {o[1]}", "Breaks": lambda: f"breaks {o[1][0]}{tuple_text(o[1][1])}", "Short": lambda: lacking_text(spec, o[1]),
            "Sent": lambda: f"entries {o[2]} wants {o[3]}", "Took": lambda: f"applied {o[2]} accepted {o[3]} gave {o[4]}",
            "DiskBroken": lambda: "broken"}.get(o[0], lambda: o[0].lower())()
-    return f"{stamp} r{me} {asked} : {got}\n"
+    return f"{stamp} r{me} {ask_text(spec, ask)} : {got}\n"
 
 
 def hold_lines(setup, logs, me, own):
@@ -827,13 +836,18 @@ def unsound(setup, world):
         yield ("AcceptsOnce",)
 
 
+def setup_for(doc, plan=None):
+    """The setup of a document, with the derived plan or one that is given as text, or Refused."""
+    found = derive(doc.spec) if plan is None else read_plan(doc.spec, plan)
+    return Rec(spec=doc.spec, plan=found, replicas=doc.replicas, stops=doc.stops, kept={})
+
+
 def setup_of(data, plan=None):
     """The setup and schedule of a document's bytes, or Refused."""
     doc = parse(data)
     if doc.first_client_line:
         raise Refused(3, f"line {doc.first_client_line}: out of place")
-    found = derive(doc.spec) if plan is None else read_plan(doc.spec, plan)
-    return Rec(spec=doc.spec, plan=found, replicas=doc.replicas, stops=doc.stops, kept={}), [(me, ask) for me, ask, line in doc.schedule]
+    return setup_for(doc, plan), [(me, ask) for me, ask, line in doc.schedule]
 
 
 def simulate(data, plan=None):
