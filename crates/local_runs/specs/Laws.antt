@@ -15,7 +15,7 @@ pub record AreOneRun (setup : Setup) (ups : List Bool) (entries : List StepEntry
   pub runs : Runs setup (first_world setup.replicas ups) entries world
   pub stand : (me : ℕ) (l : Local) → slice_get lasts me ≡ Some l → StandsIn world me l
 
--- what replicas did by themselves, each taking what messages it was given, is one run by a plan that is enough, where all entries stand in order, and each took a front of what was put for it: then each heeds whole what it takes
+-- what replicas did by themselves, each taking what messages it was given, is one run by a plan that is enough, where all entries stand in order, and each took a front of what was put for it
 abbrev pub AloneIsTogether : Type 0
 AloneIsTogether = (setup : Setup) (ups : List Bool) (taken put : ℕ → ℕ → List Message) (entries : List StepEntry) (lasts : List Local)
     → IsSettled setup → setup.replicas ≤ 16 → InOrder entries → AreAlone setup ups taken put entries lasts → (world : World) × AreOneRun setup ups entries lasts world

@@ -60,7 +60,7 @@ impl<M: Drop> Link<M> {
         ensures ok { OnOk result (put_of pass.new ≡ put_of pass.old ++ message ∷ []) }
         ensures err { IfErr result (λ full. full.message ≡ message) }
         ensures same { OnErr result (put_of pass.new ≡ put_of pass.old) }
-        // At a step of this call the link held its room of messages that were put and not taken.
+        // As far as this pass knows what was taken, the link held its room.
         ensures full { OnErr result (length (known_taken pass.old) + room_of self.now ≤ length (put_of pass.old)) }
         ensures known { known_taken pass.new ≡ known_taken pass.old }
     {
@@ -76,7 +76,7 @@ impl<M: Drop> Link<M> {
         ensures own { IsGetOf self.now pass.new }
         ensures some { IfSome result (λ message. taken_of pass.new ≡ taken_of pass.old ++ message ∷ []) }
         ensures none { IfNone result (taken_of pass.new ≡ taken_of pass.old) }
-        // At a step of this call all that was put had been taken.
+        // As far as this pass knows what was put, all of it had been taken.
         ensures empty { IfNone result (IsPrefix (known_put pass.old) (taken_of pass.old)) }
         ensures idle { IfNone result (idle_of pass.new ≡ idle_of pass.old + 1) }
         ensures busy { OnSome result (idle_of pass.new ≡ idle_of pass.old) }
