@@ -176,7 +176,7 @@ steps_now setup ups taken put lasts done e es world s steps now middle last g mi
     hand_is_heard (links_of world) me e.ask now.standing.running s.hand h.step.in_hand (λ m is. sent_now setup ups taken put lasts done e es world s steps now middle last g mid h m is) in
     elim (h.step.step (heeded_now setup ups taken put lasts done e es world s steps now middle last g mid h s.hand refl)) [
       | inl local ↦ g.one setup ups done world me (heard_of s.hand) now e middle g.all mid.runs h.stands hears local
-      | inr full ↦ absurd (h.unrefused full.0 full.1)
+      | inr full ↦ absurd (h.unrefused full.to full.refused)
     ]
 
 -- ---- after it

@@ -68,6 +68,13 @@ pub record IsRefused (to : ℕ) (entry : StepEntry) : Type 0 where
   pub asked : entry.ask ≡ asks.Send to None
   pub outcome : entry.outcome ≡ outcomes.Full
 
+-- a replica that is up finds no room on the link, and stays as it was but for its stamp
+pub record FindsFull (entry : StepEntry) (old new : Local) : Type 0 where
+  pub to : ℕ
+  pub refused : IsRefused to entry
+  pub up : old.standing.running ≡ Up
+  pub stays : new ≡ record old { standing = record old.standing { stamp = entry.stamp } }
+
 -- a step of replica me: where it heeds whole what it has in hand, that is a step of a replica of a run, or a send whose link was full
 pub record HandSteps (setup : Setup) (me : ℕ) (hand : Option Message) (old : Local) (entry : StepEntry) (new : Local) : Type 0 where
   pub replica : entry.replica ≡ me
@@ -79,7 +86,7 @@ pub record HandSteps (setup : Setup) (me : ℕ) (hand : Option Message) (old : L
   pub puts : Puts me entry.ask entry.stamp old.standing.sendings put
   pub sendings : new.standing.sendings ≡ old.standing.sendings ++ put
   pub short : length new.standing.log ≤ 4194304
-  pub step : IsHeeded setup me old hand → LocalSteps setup me (heard_of hand) old entry new ⊎ ((to : ℕ) × IsRefused to entry)
+  pub step : IsHeeded setup me old hand → LocalSteps setup me (heard_of hand) old entry new ⊎ FindsFull entry old new
 
 -- a step, with what it had in hand
 pub record Handed : Type 0 where

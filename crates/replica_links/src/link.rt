@@ -41,6 +41,7 @@ impl<M: Drop> Link<M> {
         ensures room { IfOk result (λ made. room_of made.link ≡ room) }
         ensures own { IfOk result (λ made. IsPutOf made.link made.put × IsGetOf made.link made.get) }
         ensures fresh { IfOk result (λ made. (put_of made.put ≡ []) × (taken_of made.get ≡ []) × (idle_of made.get ≡ 0)) }
+        ensures untold { IfOk result (λ made. (known_taken made.put ≡ []) × (known_put made.get ≡ [])) }
     {
         let Ok((queue, mut put)) = Queue::ruled(alloc, room as usize) else {
             return Err(NoMemory);
