@@ -21,6 +21,11 @@ pub record IsLeft (stands_for : List Batch → List ℕ → Type 0) (batches : L
   pub one : (found : List Batch) × ((found ≡ batches) ⊎ IsWith found batches pending) × stands_for found c
   pub short : IsWithin (length batches) c
 
+-- what a replica leaves on its disk: up, a finished journal of the batches that it kept; down, what stands for these, or for these and what is pending
+abbrev pub IsLeftBy : (List Batch → List ℕ → Type 0) → (List Batch → List ℕ → Type 0) → List Batch → Running → List ℕ → Type 0
+IsLeftBy finished stands_for batches Up c = finished batches c
+IsLeftBy finished stands_for batches (Down pending) c = IsLeft stands_for batches pending c
+
 -- a live journal among n replicas, whose disk has P where it tells its bytes
 pub record IsUp (live : Bool) (is_kept : Type 0) (replicas n : ℕ) (s : Standing) (P : List ℕ → Type 0) : Type 0 where
   pub alive : live ≡ true

@@ -31,7 +31,7 @@ fn is_up(found: Found) -> bool
 
 impl<J: Keeps + Drop> Storage for Journaled<J> {
     ghost use Rattle.std.specs.Prelude.{IsSomeAnd};
-    ghost use Rattle.batch_storage.specs.Held.{IsStored, IsLeft, IsUp, IsDown, IsHeld, seen_of};
+    ghost use Rattle.batch_storage.specs.Held.{IsStored, IsLeft, IsLeftBy, IsUp, IsDown, IsHeld, seen_of};
 
     type D = J::D;
 
@@ -42,7 +42,7 @@ impl<J: Keeps + Drop> Storage for Journaled<J> {
         (λ d next. IsDown (J.D.standing d) (J.D.may_leave d) (IsLeft (J.stands_for n) batches next))
         running) };
 
-    ghost finished = { λ n batches c. J.finished n batches c };
+    ghost comes_back = { λ n batches running c. IsLeftBy (J.finished n) (J.stands_for n) batches running c };
 
     fn begin(alloc: Global, disk: J::D, replicas: u32) -> Result<(Self, bool), NoMemory> {
         let (held, found) = start_on::<J>(alloc, disk, replicas, &[], &None);

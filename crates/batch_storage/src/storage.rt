@@ -37,8 +37,9 @@ pub trait Storage: Sized {
     /// then a crash leaves the batches, or these and the pending one.
     ghost keeps: { Self → ℕ → List BatchOf → Running → Type 0 };
 
-    /// Bytes that are a finished journal of these batches, among so many replicas.
-    ghost finished: { ℕ → List BatchOf → List ℕ → Type 0 };
+    /// Bytes that may come back, among so many replicas, of one that kept these batches: up, a finished
+    /// journal of them; down, what stands for them, or for them and the pending one.
+    ghost comes_back: { ℕ → List BatchOf → Running → List ℕ → Type 0 };
 
     /// Starts on an empty disk on which nothing is pending. With `false` the disk failed, and the
     /// replica begins down.
@@ -74,8 +75,8 @@ pub trait Storage: Sized {
         ensures err { OnErr result (keeps self.new replicas kept.now (Down pending.now)) }
         ensures costs { Costs (shows self.old) (shows self.new) (result ≡ Ok found.Broken) };
 
-    /// The disk. That of a replica that is up is a finished journal.
+    /// The disk.
     fn into_disk(self) -> Self::D
-        ensures finished { (n : ℕ) (batches : List BatchOf) → keeps self n batches Up → IsTrue (shows self).tells → finished n batches (Self.D.standing result).bytes }
+        ensures journal { (n : ℕ) (batches : List BatchOf) (running : Running) → keeps self n batches running → IsTrue (shows self).tells → comes_back n batches running (Self.D.standing result).bytes }
         ensures shown { shows self ≡ shown_of (Self.D.standing result) };
 }

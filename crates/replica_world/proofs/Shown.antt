@@ -7,7 +7,7 @@ use Rattle.ind_disk.specs.Disk.{Standing}
 use Rattle.spec_model.specs.declared.plan.Setup.{Setup}
 use Rattle.run_model.specs.declared.batch.Batch.{Batch}
 use Rattle.run_model.specs.declared.step.Order.{Order}
-use Rattle.run_model.specs.Worlds.{Running, Up}
+use Rattle.run_model.specs.Worlds.{Running}
 use Rattle.run_model.proofs.Lists.{get_push}
 use Rattle.batch_storage.specs.Shown.{Shown}
 use Rattle.replica_course.specs.Courses.{IsCourse, running_of}
@@ -33,12 +33,12 @@ can_show setup done courses links h few k c is =
 
 -- ---- the disks
 
-pub disks_none : {S D : Type 0} (standing : D → Standing) (shows : S → Shown) (keeps : S → ℕ → List Batch → Running → Type 0) (finished : ℕ → List Batch → List ℕ → Type 0) → AreDisksOf standing shows keeps finished [] []
-disks_none standing shows keeps finished = record { whole = refl; each = λ k s d is at. absurd cc }
+pub disks_none : {S D : Type 0} (standing : D → Standing) (shows : S → Shown) (keeps : S → ℕ → List Batch → Running → Type 0) (comes_back : ℕ → List Batch → Running → List ℕ → Type 0) → AreDisksOf standing shows keeps comes_back [] []
+disks_none standing shows keeps comes_back = record { whole = refl; each = λ k s d is at. absurd cc }
 
-pub disks_more : {S D : Type 0} (standing : D → Standing) (shows : S → Shown) (keeps : S → ℕ → List Batch → Running → Type 0) (finished : ℕ → List Batch → List ℕ → Type 0) (storages : List S) (disks : List D) (s : S) (d : D) → AreDisksOf standing shows keeps finished storages disks
-    → IsDiskOf standing shows keeps finished s d → AreDisksOf standing shows keeps finished (storages ++ s ∷ []) (disks ++ d ∷ [])
-disks_more standing shows keeps finished storages disks s d h one = record {
+pub disks_more : {S D : Type 0} (standing : D → Standing) (shows : S → Shown) (keeps : S → ℕ → List Batch → Running → Type 0) (comes_back : ℕ → List Batch → Running → List ℕ → Type 0) (storages : List S) (disks : List D) (s : S) (d : D) → AreDisksOf standing shows keeps comes_back storages disks
+    → IsDiskOf standing shows keeps comes_back s d → AreDisksOf standing shows keeps comes_back (storages ++ s ∷ []) (disks ++ d ∷ [])
+disks_more standing shows keeps comes_back storages disks s d h one = record {
   whole = length-append disks (d ∷ []) ∙ ap (λ n. n + 1) h.whole ∙ sym (length-append storages (s ∷ []));
   each = λ k t e is at. elim (get_push storages s k t is) [
     | inl old ↦ elim (get_push disks d k e at) [
@@ -47,22 +47,22 @@ disks_more standing shows keeps finished storages disks s d h one = record {
     ]
     | inr last ↦ elim (get_push disks d k e at) [
       | inl old_disk ↦ absurd (omega (arith, slice_get_within disks k e old_disk, last.0, h.whole))
-      | inr last_disk ↦ subst (λ x. IsDiskOf standing shows keeps finished x e) last.1 (subst (λ x. IsDiskOf standing shows keeps finished s x) last_disk.1 one)
+      | inr last_disk ↦ subst (λ x. IsDiskOf standing shows keeps comes_back x e) last.1 (subst (λ x. IsDiskOf standing shows keeps comes_back s x) last_disk.1 one)
     ]
   ];
 }
 
 -- the disk of the next storage
-pub disks_next : {S D : Type 0} (standing : D → Standing) (shows : S → Shown) (keeps : S → ℕ → List Batch → Running → Type 0) (finished : ℕ → List Batch → List ℕ → Type 0) (storages front left behind : List S) (disks more : List D) (s : S) (d : D) → front ++ left ≡ storages → left ≡ s ∷ behind → more ≡ disks ++ d ∷ []
-    → AreDisksOf standing shows keeps finished front disks → IsDiskOf standing shows keeps finished s d → ((front ++ s ∷ []) ++ behind ≡ storages) × AreDisksOf standing shows keeps finished (front ++ s ∷ []) more
-disks_next standing shows keeps finished storages front left behind disks more s d all split are h one =
-    (yielded_more storages front left behind s all split, subst (AreDisksOf standing shows keeps finished (front ++ s ∷ [])) (sym are) (disks_more standing shows keeps finished front disks s d h one))
+pub disks_next : {S D : Type 0} (standing : D → Standing) (shows : S → Shown) (keeps : S → ℕ → List Batch → Running → Type 0) (comes_back : ℕ → List Batch → Running → List ℕ → Type 0) (storages front left behind : List S) (disks more : List D) (s : S) (d : D) → front ++ left ≡ storages → left ≡ s ∷ behind → more ≡ disks ++ d ∷ []
+    → AreDisksOf standing shows keeps comes_back front disks → IsDiskOf standing shows keeps comes_back s d → ((front ++ s ∷ []) ++ behind ≡ storages) × AreDisksOf standing shows keeps comes_back (front ++ s ∷ []) more
+disks_next standing shows keeps comes_back storages front left behind disks more s d all split are h one =
+    (yielded_more storages front left behind s all split, subst (AreDisksOf standing shows keeps comes_back (front ++ s ∷ [])) (sym are) (disks_more standing shows keeps comes_back front disks s d h one))
 
--- the disk of a replica that is up is its finished journal
-pub finished_at : {S D : Type 0} (standing : D → Standing) (shows : S → Shown) (keeps : S → ℕ → List Batch → Running → Type 0) (finished : ℕ → List Batch → List ℕ → Type 0) (setup : Setup) (courses : List Course) (storages : List S) (disks : List D)
-    → AreKept keeps setup courses storages → AreDisksOf standing shows keeps finished storages disks
-    → (me : ℕ) (c : Course) (d : D) → slice_get courses me ≡ Some c → slice_get disks me ≡ Some d → running_of c ≡ Up → IsTrue (standing d).tells → finished setup.replicas c.kept (standing d).bytes
-finished_at standing shows keeps finished setup courses storages disks kept are me c d is at up tells =
+-- what comes back of a replica is what it may leave
+pub journal_at : {S D : Type 0} (standing : D → Standing) (shows : S → Shown) (keeps : S → ℕ → List Batch → Running → Type 0) (comes_back : ℕ → List Batch → Running → List ℕ → Type 0) (setup : Setup) (courses : List Course) (storages : List S) (disks : List D)
+    → AreKept keeps setup courses storages → AreDisksOf standing shows keeps comes_back storages disks
+    → (me : ℕ) (c : Course) (d : D) → slice_get courses me ≡ Some c → slice_get disks me ≡ Some d → IsTrue (standing d).tells → comes_back setup.replicas c.kept (running_of c) (standing d).bytes
+journal_at standing shows keeps comes_back setup courses storages disks kept are me c d is at tells =
     let s = some_at storages me (omega (arith, slice_get_within courses me c is, kept.whole)) in
-    let one : IsDiskOf standing shows keeps finished s.0 d = are.each me s.0 d s.1 at in
-    one.journal setup.replicas c.kept (subst (keeps s.0 setup.replicas c.kept) up (kept.each me c s.0 is s.1)) (subst (λ (b : Bool). IsTrue b) (sym (ap (λ (x : Shown). x.tells) one.shown)) tells)
+    let one : IsDiskOf standing shows keeps comes_back s.0 d = are.each me s.0 d s.1 at in
+    one.journal setup.replicas c.kept (running_of c) (kept.each me c s.0 is s.1) (subst (λ (b : Bool). IsTrue b) (sym (ap (λ (x : Shown). x.tells) one.shown)) tells)

@@ -5,7 +5,6 @@ ghost use Rattle.std.specs.List.{AllByRecursion};
 ghost use Rattle.run_model.specs.declared.step.Order.{Order as OrderOf};
 ghost use Rattle.run_model.specs.Fitting.{SetupFits};
 ghost use Rattle.run_model.specs.Sound.{IsSettled};
-ghost use Rattle.run_model.specs.Worlds.{Up};
 ghost use Rattle.batch_storage.specs.Shown.{shown_of};
 ghost use Rattle.ind_disk.specs.Bay.{IsEmpty, TellsAll};
 ghost use Rattle.scenario_text.specs.Numbered.{IsNumbered};
@@ -73,7 +72,7 @@ fn histories(alloc: Global, setup: &Setup, courses: Vec<Course>) -> Result<Items
 
 /// The disks of storages.
 fn disks_of<S: Storage + Drop>(alloc: Global, storages: Vec<S>) -> Result<Vec<S::D>, NoMemory>
-    ensures { IfOk result (λ disks. AreDisksOf S.D.standing S.shows S.keeps S.finished storages.items disks.items) }
+    ensures { IfOk result (λ disks. AreDisksOf S.D.standing S.shows S.keeps S.comes_back storages.items disks.items) }
 {
     let mut disks = Vec::new(alloc);
     for storage in storages {
@@ -171,8 +170,8 @@ impl<S: Storage + Drop> World<S> {
         ensures histories { IfOk result (λ ended. ended.histories ≡ map (history_of setup.now) self.courses.items) }
         ensures whole { IfOk result (λ ended. length ended.disks.items ≡ setup.now.replicas) }
         ensures shown { IfOk result (λ ended. (me : ℕ) (s : _) (d : _) → slice_get self.storages.items me ≡ Some s → slice_get ended.disks.items me ≡ Some d → S.shows s ≡ shown_of (S.D.standing d)) }
-        ensures finished { IfOk result (λ ended. (me : ℕ) (c : CourseOf) (d : _) → slice_get self.courses.items me ≡ Some c → slice_get ended.disks.items me ≡ Some d
-            → running_of c ≡ Up → IsTrue (S.D.standing d).tells → S.finished setup.now.replicas c.kept (S.D.standing d).bytes) }
+        ensures journals { IfOk result (λ ended. (me : ℕ) (c : CourseOf) (d : _) → slice_get self.courses.items me ≡ Some c → slice_get ended.disks.items me ≡ Some d
+            → IsTrue (S.D.standing d).tells → S.comes_back setup.now.replicas c.kept (running_of c) (S.D.standing d).bytes) }
     {
         let World {
             courses,

@@ -40,7 +40,7 @@ fn disks_of<B: Bay>(
     lines: &[StopLine],
     bay: &mut B,
 ) -> Result<Vec<B::D>, NoMemory>
-    ensures { IfOk result (λ disks. AreHanded B.D.standing B.D.may_leave B.tells B.has_given B.given lines.now replicas bay.old bay.new disks.items) }
+    ensures { IfOk result (λ disks. AreHanded B.D.standing B.D.may_leave B.tells B.has_given B.given B.left lines.now replicas bay.old bay.new disks.items) }
 {
     let mut disks = Vec::new(alloc);
     for replica in 0..replicas {

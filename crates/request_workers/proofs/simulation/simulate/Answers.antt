@@ -17,6 +17,6 @@ returns-clause-legal g c =
           (bay_tells g.B.D.Disk.standing g.B.D.Disk.may_leave g.B.Bay.tells g.B.Bay.has_given g.B.Bay.given g.B.Bay.left _ c.args.setup.now c.args.lines.now c.args.schedule.now c.args.bay.now c.disks_of.new.bay c.give_back.new.bay
           c.in_ok-disks.disks.items _ c.run.new.world.courses.items c.run.new.world.storages.items _ h c.in_ok-disks.ensures
           (λ me. c.in_ok-run.ensures.stops me (length (stops_of me c.args.lines.now)) (c.in_ok-world.ensures.stops me (length (stops_of me c.args.lines.now)) (λ d is. c.in_ok-disks.ensures.told telling me d is)))
-          (record { whole = c.in_ok-histories.ensures.whole; storages_whole = c.in_ok-run.ensures.kept.whole; shown = c.in_ok-histories.ensures.shown; journals = c.in_ok-histories.ensures.finished })
+          (record { whole = c.in_ok-histories.ensures.whole; storages_whole = c.in_ok-run.ensures.kept.whole; shown = c.in_ok-histories.ensures.shown; journals = c.in_ok-histories.ensures.journals })
           c.give_back.ensures telling entries (subst (λ hs. IsMerged hs entries) histories_are merged)),
     )
