@@ -19,7 +19,7 @@ use Rattle.replica_course.specs.declared.course.Course.{Course}
 use Rattle.replica_world.specs.Worlds.{AreKept, HasStops, HasStopsAt}
 
 -- what stands at a place, once one place was set
-set_same : {X : Type 0} (xs : List X) (i : ℕ) (old new x : X) → slice_get xs i ≡ Some old → slice_get (slice_set xs i new) i ≡ Some x → new ≡ x
+pub set_same : {X : Type 0} (xs : List X) (i : ℕ) (old new x : X) → slice_get xs i ≡ Some old → slice_get (slice_set xs i new) i ≡ Some x → new ≡ x
 set_same xs i old new x was is = let same : Some new ≡ Some x = sym (get_set_same xs i new (slice_get_within xs i old was)) ∙ is in cc
 
 -- the replica that stepped keeps what it says, and all others as before
@@ -81,14 +81,22 @@ stops_more given old new c after e costs entries up h = record {
     more : failures c.first_up (c.entries ++ e ∷ []) ≡ failures c.first_up c.entries + length (if is_broken e.outcome then e ∷ [] else [])
     more = failures_more c.first_up c.entries e
 
-pub stops_at : {S : Type 0} (shows : S → Shown) (me : ℕ) (courses : List Course) (storages : List S) (c after : Course) (s last : S) (e : StepEntry) → slice_get courses me ≡ Some c → slice_get storages me ≡ Some s
-    → Costs (shows s) (shows last) (IsBroken e.outcome) → after.entries ≡ c.entries ++ e ∷ [] → after.first_up ≡ c.first_up
-    → (r given : ℕ) → HasStopsAt shows courses storages r given → HasStopsAt shows (slice_set courses me after) (slice_set storages me last) r given
-stops_at shows me courses storages c after s last e was had costs entries up r given h = λ d t is there. elim (eqb_tells r me) [
+-- a refusal spends none
+pub stops_same : (given : ℕ) (old new : Shown) (c after : Course) → Costs old new ⊥ → after.entries ≡ c.entries → after.first_up ≡ c.first_up → HasStops given old c → HasStops given new after
+stops_same given old new c after costs entries up h = record {
+  tells = subst (λ (b : Bool). IsTrue b) (sym costs.tells) h.tells;
+  tells_stops = subst (λ (b : Bool). IsTrue b) (sym costs.tells_stops) h.tells_stops;
+  few = omega (arith, ap (λ b. failures b after.entries) up ∙ ap (failures c.first_up) entries, costs.no_more_stops, h.few);
+}
+
+-- at the replica that stepped, and all others
+pub at_one : {S : Type 0} (shows : S → Shown) (me : ℕ) (courses : List Course) (storages : List S) (c after : Course) (s last : S) {given : ℕ} → slice_get courses me ≡ Some c → slice_get storages me ≡ Some s → (HasStops given (shows s) c → HasStops given (shows last) after)
+    → (r : ℕ) → HasStopsAt shows courses storages r given → HasStopsAt shows (slice_set courses me after) (slice_set storages me last) r given
+at_one shows me courses storages c after s last {given} was had one_more r h = λ d t is there. elim (eqb_tells r me) [
   | inl same ↦
       let one : after ≡ d = set_same courses me c after d was (subst (λ i. slice_get (slice_set courses me after) i ≡ Some d) same.1 is) in
       let other : last ≡ t = set_same storages me s last t had (subst (λ i. slice_get (slice_set storages me last) i ≡ Some t) same.1 there) in
       let before : HasStops given (shows s) c = h c s (subst (λ i. slice_get courses i ≡ Some c) (sym same.1) was) (subst (λ i. slice_get storages i ≡ Some s) (sym same.1) had) in
-      subst (λ u. HasStops given (shows u) d) other (subst (HasStops given (shows last)) one (stops_more given (shows s) (shows last) c after e costs entries up before))
+      subst (λ u. HasStops given (shows u) d) other (subst (HasStops given (shows last)) one (one_more before))
   | inr ne ↦ h d t (get_set_other courses me r after d ne.1 is) (get_set_other storages me r last t ne.1 there)
 ]

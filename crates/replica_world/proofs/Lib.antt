@@ -7,3 +7,4 @@ pub mod Running
 pub mod Begun
 pub mod Shown
 pub mod Answered
+pub mod Room

@@ -8,7 +8,7 @@ use Rattle.run_model.specs.declared.step.Order.{Order}
 use Rattle.run_model.specs.Worlds.{Running, Up, Down}
 use Rattle.scenario_text.specs.Numbered.{IsNumbered}
 use Rattle.scenario_text.specs.WellFormed.{OrderFits}
-use Rattle.replica_course.specs.Courses.{IsCourse, running_of}
+use Rattle.replica_course.specs.Courses.{IsAsBefore, IsCourse, running_of}
 use Rattle.replica_course.specs.Steps.{CourseSteps}
 use Rattle.replica_course.specs.declared.answer.Answer.{Answer}
 use Rattle.replica_course.specs.declared.course.Course.{Course}
@@ -40,10 +40,22 @@ abbrev pub put_by : ℕ → Option Message → Heard
 put_by stamp None = heard.Unsent stamp
 put_by stamp (Some message) = heard.Message message
 
+-- the links with this put behind what is on one of them
+abbrev pub with_put : List (List Heard) → ℕ → ℕ → Heard → List (List Heard)
+with_put links from to h = slice_set links (link_place from to) (put_on links from to ++ h ∷ [])
+
+-- the links with room for what replica me is asked to send
+abbrev pub with_room : List (List Heard) → ℕ → Ask → List (List Heard)
+with_room links me (asks.Do inst) = links
+with_room links me (asks.Send to number) = with_put links me to heard.Nothing
+with_room links me (asks.Take from number) = links
+with_room links me asks.Crash = links
+with_room links me asks.Recover = links
+
 -- the links after a step of replica me
 abbrev pub links_after : List (List Heard) → ℕ → Ask → ℕ → Option Message → List (List Heard)
 links_after links me (asks.Do inst) stamp sent = links
-links_after links me (asks.Send to number) stamp sent = slice_set links (link_place me to) (put_on links me to ++ put_by stamp sent ∷ [])
+links_after links me (asks.Send to number) stamp sent = with_put links me to (put_by stamp sent)
 links_after links me (asks.Take from number) stamp sent = links
 links_after links me asks.Crash stamp sent = links
 links_after links me asks.Recover stamp sent = links
@@ -73,3 +85,17 @@ pub record StepsAt (setup : Setup) (me : ℕ) (ask : Ask) (links : List (List He
   pub at_hand : IsAtHand links me ask (running_of before) hand
   pub own : IsCourse setup before.me after
   pub steps : CourseSteps setup ask hand before answer after
+
+-- replica me refused a step and stands as before
+pub record StaysAt (setup : Setup) (me : ℕ) (old new : List Course) : Type 0 where
+  pub before : Course
+  pub after : Course
+  pub was : slice_get old me ≡ Some before
+  pub becomes : new ≡ slice_set old me after
+  pub own : IsCourse setup before.me after
+  pub as_before : IsAsBefore before after
+
+-- each replica stands as before, and its history is the same
+pub record AreAsBefore (old new : List Course) : Type 0 where
+  pub whole : length new ≡ length old
+  pub each : (me : ℕ) (c d : Course) → slice_get old me ≡ Some c → slice_get new me ≡ Some d → IsAsBefore c d

@@ -1,11 +1,12 @@
 //! The links between replicas: what each put on its way to each, in order.
 
-ghost use Rattle.std.specs.Prelude.{◌≡◌, ◌<◌, ◌++◌, ◌∷◌, [], ℕ, IfOk, OnOk, length, replicate, slice_get, slice_set, Option, Some};
+ghost use Rattle.std.specs.Prelude.{◌≡◌, ◌<◌, [], ℕ, IfOk, OnErr, OnOk, length, replicate, slice_get, List, Option, Some};
 ghost use Rattle.run_model.specs.Worlds.{Up};
+ghost use Rattle.replica_course.specs.declared.heard.Heard.{Heard as HeardOf};
 ghost use Rattle.replica_course.specs.declared.heard.Heard.TheVariants as heards;
 ghost use Rattle.replica_course.specs.Courses.{running_of};
 ghost use Rattle.replica_world.specs.Links.{link_place, put_on};
-ghost use Rattle.replica_world.specs.Stepping.{IsAtHand, IsOnLink, SendsWithin, links_after, put_by};
+ghost use Rattle.replica_world.specs.Stepping.{IsAtHand, IsOnLink, SendsWithin, links_after, put_by, with_put, with_room};
 
 use ind_base::{List, NoMemory};
 use replica_course::{Course, Heard};
@@ -36,16 +37,67 @@ fn place(from: u32, to: u32) -> usize
     from as usize * REPLICAS + to as usize
 }
 
-/// Puts something on a link.
-fn put(links: &mut Vec<List<Heard>>, from: u32, to: u32, heard: Heard) -> Result<(), NoMemory>
+/// Puts nothing behind what is on a link, as room for something.
+#[tactic(auto, using(crate::proofs::Room::stays))]
+fn put_nothing(links: &mut Vec<List<Heard>>, from: u32, to: u32) -> Result<(), NoMemory>
     requires from { from < 16 }
     requires to { to < 16 }
     requires whole { length links.old.items ≡ 256 }
-    ensures { OnOk result (links.new.items ≡ slice_set links.old.items (link_place from to) (put_on links.old.items from to ++ heard ∷ [])) }
+    ensures ok { OnOk result (links.new.items ≡ with_put links.old.items from to heards.Nothing) }
+    ensures err { OnErr result (links.new.items ≡ links.old.items) }
 {
     let link = &mut links[place(from, to)];
     let _so_far = link.as_slice();
-    link.push(heard)
+    link.push(Heard::Nothing)
+}
+
+/// Puts something where there is room for it on a link.
+fn fill(links: &mut Vec<List<Heard>>, from: u32, to: u32, heard: Heard)
+    requires from { from < 16 }
+    requires to { to < 16 }
+    requires room { (before : List (List HeardOf)) × (length before ≡ 256) × (links.old.items ≡ with_put before from to heards.Nothing) }
+    ensures { (before : List (List HeardOf)) → length before ≡ 256 → links.old.items ≡ with_put before from to heards.Nothing → links.new.items ≡ with_put before from to heard }
+{
+    let link = &mut links[place(from, to)];
+    let last = link.len() - 1;
+    link.set(last, heard);
+}
+
+/// Takes the room off a link.
+fn take_nothing(links: &mut Vec<List<Heard>>, from: u32, to: u32)
+    requires from { from < 16 }
+    requires to { to < 16 }
+    requires room { (before : List (List HeardOf)) × (length before ≡ 256) × (links.old.items ≡ with_put before from to heards.Nothing) }
+    ensures { (before : List (List HeardOf)) → length before ≡ 256 → links.old.items ≡ with_put before from to heards.Nothing → links.new.items ≡ before }
+{
+    let link = &mut links[place(from, to)];
+    let _nothing = link.pop();
+}
+
+/// Makes room for what a step may send.
+pub(crate) fn make_room(links: &mut Vec<List<Heard>>, me: u32, ask: &Ask) -> Result<(), NoMemory>
+    requires me { me < 16 }
+    requires to { SendsWithin ask.now }
+    requires whole { length links.old.items ≡ 256 }
+    ensures ok { OnOk result (links.new.items ≡ with_room links.old.items me ask.now) }
+    ensures err { OnErr result (links.new.items ≡ links.old.items) }
+{
+    match *ask {
+        Ask::Send { to, .. } => put_nothing(links, me, to),
+        _ => Ok(()),
+    }
+}
+
+/// Takes that room away.
+pub(crate) fn leave_room(links: &mut Vec<List<Heard>>, me: u32, ask: &Ask)
+    requires me { me < 16 }
+    requires to { SendsWithin ask.now }
+    requires room { (before : List (List HeardOf)) × (length before ≡ 256) × (links.old.items ≡ with_room before me ask.now) }
+    ensures { (before : List (List HeardOf)) → length before ≡ 256 → links.old.items ≡ with_room before me ask.now → links.new.items ≡ before }
+{
+    if let Ask::Send { to, .. } = *ask {
+        take_nothing(links, me, to);
+    }
 }
 
 /// What a send puts on its link.
@@ -58,22 +110,21 @@ fn put_of(stamp: u64, sent: Option<Message>) -> Heard
     }
 }
 
-/// Puts what a step sent on the link.
+/// Puts what a step sent on the link, where there is room for it.
 pub(crate) fn put_sent(
     links: &mut Vec<List<Heard>>,
     me: u32,
     ask: &Ask,
     stamp: u64,
     sent: Option<Message>,
-) -> Result<(), NoMemory>
+)
     requires me { me < 16 }
     requires to { SendsWithin ask.now }
-    requires whole { length links.old.items ≡ 256 }
-    ensures { OnOk result (links.new.items ≡ links_after links.old.items me ask.now stamp sent) }
+    requires room { (before : List (List HeardOf)) × (length before ≡ 256) × (links.old.items ≡ with_room before me ask.now) }
+    ensures { (before : List (List HeardOf)) → length before ≡ 256 → links.old.items ≡ with_room before me ask.now → links.new.items ≡ links_after before me ask.now stamp sent }
 {
-    match *ask {
-        Ask::Send { to, .. } => put(links, me, to, put_of(stamp, sent)),
-        _ => Ok(()),
+    if let Ask::Send { to, .. } = *ask {
+        fill(links, me, to, put_of(stamp, sent));
     }
 }
 

@@ -1,6 +1,6 @@
 //! The replicas of a schedule.
 
-ghost use Rattle.std.specs.Prelude.{◌≡◌, ◌<◌, ◌≤◌, ◌++◌, ◌∷◌, [], ℕ, IfOk, IsTrue, List, OnOk, Option, Some, length, map, slice_get};
+ghost use Rattle.std.specs.Prelude.{◌≡◌, ◌≢◌, ◌<◌, ◌≤◌, ◌++◌, ◌∷◌, [], ℕ, IfOk, IsTrue, List, OnErr, OnOk, Option, Some, length, map, slice_get};
 ghost use Rattle.std.specs.List.{AllByRecursion};
 ghost use Rattle.run_model.specs.declared.step.Order.{Order as OrderOf};
 ghost use Rattle.run_model.specs.Fitting.{SetupFits};
@@ -10,11 +10,12 @@ ghost use Rattle.ind_disk.specs.Bay.{IsEmpty, TellsAll};
 ghost use Rattle.scenario_text.specs.Numbered.{IsNumbered};
 ghost use Rattle.scenario_text.specs.WellFormed.{OrderFits};
 ghost use Rattle.replica_course.specs.declared.course.Course.{Course as CourseOf};
+ghost use Rattle.replica_course.specs.declared.heard.Heard.{Heard as HeardOf};
 ghost use Rattle.replica_course.specs.Courses.{history_of, running_of};
 ghost use Rattle.replica_world.specs.Begun.{HasBegun};
 ghost use Rattle.replica_world.specs.Ended.{AreDisksOf, CanShow};
 
-use crate::links::{in_hand, no_links, put_sent};
+use crate::links::{in_hand, leave_room, make_room, no_links, put_sent};
 use batch_storage::Storage;
 use ind_base::{List as Items, NoMemory};
 use message_laws::messages_are_heeded;
@@ -82,7 +83,7 @@ fn disks_of<S: Storage + Drop>(alloc: Global, storages: Vec<S>) -> Result<Vec<S:
 }
 
 impl<S: Storage + Drop> World<S> {
-    ghost use Rattle.replica_world.specs.Stepping.{IsDue, StepsAt};
+    ghost use Rattle.replica_world.specs.Stepping.{AreAsBefore, IsDue, StaysAt, StepsAt, with_room};
     ghost use Rattle.replica_world.specs.Worlds.{AreKept, AreRunning, HasStopsAt};
 
     /// The replicas before their first steps, each on its empty disk. One whose disk fails begins
@@ -113,7 +114,7 @@ impl<S: Storage + Drop> World<S> {
         })
     }
 
-    /// Lets a replica take a step; what it sends isn't on its link yet.
+    /// Lets a replica take a step, on links with room for what it sends, which isn't there yet.
     fn answer(
         &mut self,
         alloc: Global,
@@ -121,13 +122,15 @@ impl<S: Storage + Drop> World<S> {
         me: u32,
         ask: &Ask,
     ) -> Result<Answer, NoMemory>
-        requires due { (done : List OrderOf) × IsDue setup.now done (record { replica = me; ask = ask.now }) self.old.courses.items self.old.links.items }
+        requires due { (links : List (List HeardOf)) × (done : List OrderOf) × IsDue setup.now done (record { replica = me; ask = ask.now }) self.old.courses.items links × (self.old.links.items ≡ with_room links me ask.now) }
         requires few { setup.now.replicas ≤ 8 }
         requires kept { AreKept S.keeps setup.now self.old.courses.items self.old.storages.items }
         ensures links { self.new.links.items ≡ self.old.links.items }
         ensures steps { IfOk result (λ answer. StepsAt setup.now me ask.now self.old.links.items self.old.courses.items answer self.new.courses.items) }
+        ensures err { OnErr result (StaysAt setup.now me self.old.courses.items self.new.courses.items) }
         ensures kept { AreKept S.keeps setup.now self.new.courses.items self.new.storages.items }
-        ensures stops { OnOk result ((r given : ℕ) → HasStopsAt S.shows self.old.courses.items self.old.storages.items r given → HasStopsAt S.shows self.new.courses.items self.new.storages.items r given) }
+        ensures others { (r : ℕ) → r ≢ me → slice_get self.new.storages.items r ≡ slice_get self.old.storages.items r }
+        ensures stops { (r given : ℕ) → HasStopsAt S.shows self.old.courses.items self.old.storages.items r given → HasStopsAt S.shows self.new.courses.items self.new.storages.items r given }
     {
         let nothing = Heard::Nothing;
         let course = &mut self.courses[me as usize];
@@ -136,8 +139,9 @@ impl<S: Storage + Drop> World<S> {
     }
 
     /// Takes a step at a replica: the next line of the schedule. A send is numbered by the steps of
-    /// this replica that sent to that peer before, and a take names such a step of its peer. After
-    /// a refusal for want of memory no line may follow.
+    /// this replica that sent to that peer before, and a take names such a step of its peer. A
+    /// refusal for want of memory leaves all as it was, but that a recovery may have restarted the
+    /// disk: the next line may follow.
     pub fn step(
         &mut self,
         alloc: Global,
@@ -153,14 +157,25 @@ impl<S: Storage + Drop> World<S> {
         ensures running { OnOk result ((done : List OrderOf) → AreRunning setup.now done self.old.courses.items self.old.links.items → IsNumbered done (record { replica = replica; ask = ask }) → length done < 100000
             → AreRunning setup.now (done ++ record { replica = replica; ask = ask } ∷ []) self.new.courses.items self.new.links.items) }
         ensures kept { AreKept S.keeps setup.now self.new.courses.items self.new.storages.items }
-        ensures stops { OnOk result ((me given : ℕ) → HasStopsAt S.shows self.old.courses.items self.old.storages.items me given → HasStopsAt S.shows self.new.courses.items self.new.storages.items me given) }
+        ensures others { (r : ℕ) → r ≢ replica → slice_get self.new.storages.items r ≡ slice_get self.old.storages.items r }
+        ensures stops { (me given : ℕ) → HasStopsAt S.shows self.old.courses.items self.old.storages.items me given → HasStopsAt S.shows self.new.courses.items self.new.storages.items me given }
+        ensures err { OnErr result (AreAsBefore self.old.courses.items self.new.courses.items × (self.new.links.items ≡ self.old.links.items)) }
+        ensures running_still { OnErr result ((done : List OrderOf) → AreRunning setup.now done self.old.courses.items self.old.links.items → AreRunning setup.now done self.new.courses.items self.new.links.items) }
     {
         local_step_is_one();
         messages_are_heeded();
         decided_grow();
-        let Answer { entry, sent } = self.answer(alloc, setup, replica, &ask)?;
-        put_sent(&mut self.links, replica, &ask, entry.stamp, sent)?;
-        Ok(entry)
+        make_room(&mut self.links, replica, &ask)?;
+        match self.answer(alloc, setup, replica, &ask) {
+            Ok(Answer { entry, sent }) => {
+                put_sent(&mut self.links, replica, &ask, entry.stamp, sent);
+                Ok(entry)
+            }
+            Err(refusal) => {
+                leave_room(&mut self.links, replica, &ask);
+                Err(refusal)
+            }
+        }
     }
 
     /// What the replicas did, how they stand, and their disks.

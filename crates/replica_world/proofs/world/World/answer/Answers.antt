@@ -1,4 +1,4 @@
-use Rattle.replica_world.proofs.Answered.{ready, steps_at, stops_if}
+use Rattle.replica_world.proofs.Answered.{ready, stays_at, steps_at, stops_if}
 use Rattle.replica_world.proofs.Kept.{kept_more}
 use Rattle.replica_world.proofs.world.World.answer.Goals as goal
 
@@ -27,6 +27,11 @@ returns-clause-steps g c =
     let r = ready c.in_hand-heard.result.now c.requires.due c.requires.kept c.index_mut-course.ensures.value c.index_mut.ensures.value c.deref.ensures.value c.in_hand-heard.ensures in
     steps_at c.args.setup.now c.args.me c.args.ask.now c.args.self.now.links.items c.args.self.now.courses.items c.index_mut-course.result.now c.step.new.self c.in_hand-heard.result.now c.step.result r.was r.at_hand c.step.ensures.own c.step.ensures.steps
 
+pub returns-clause-err : goal.returns-clause-err
+returns-clause-err g c =
+    let r = ready c.in_hand-heard.result.now c.requires.due c.requires.kept c.index_mut-course.ensures.value c.index_mut.ensures.value c.deref.ensures.value c.in_hand-heard.ensures in
+    stays_at c.args.setup.now c.args.me c.args.self.now.courses.items c.index_mut-course.result.now c.step.new.self c.step.result r.was c.step.ensures.own c.step.ensures.err
+
 pub returns-clause-kept : goal.returns-clause-kept
 returns-clause-kept g c =
     let r = ready c.in_hand-heard.result.now c.requires.due c.requires.kept c.index_mut-course.ensures.value c.index_mut.ensures.value c.deref.ensures.value c.in_hand-heard.ensures in
@@ -35,4 +40,4 @@ returns-clause-kept g c =
 pub returns-clause-stops : goal.returns-clause-stops
 returns-clause-stops g c =
     let r = ready c.in_hand-heard.result.now c.requires.due c.requires.kept c.index_mut-course.ensures.value c.index_mut.ensures.value c.deref.ensures.value c.in_hand-heard.ensures in
-    stops_if g.S.Storage.shows c.args.setup.now c.args.me c.args.ask.now c.args.self.now.courses.items c.args.self.now.storages.items c.index_mut-course.result.now c.step.new.self c.index_mut.result.now c.step.new.storage c.in_hand-heard.result.now c.step.result r.was r.had c.step.ensures.steps c.step.ensures.costs
+    stops_if g.S.Storage.shows c.args.setup.now c.args.me c.args.ask.now c.args.self.now.courses.items c.args.self.now.storages.items c.index_mut-course.result.now c.step.new.self c.index_mut.result.now c.step.new.storage c.in_hand-heard.result.now c.step.result r.was r.had c.step.ensures.steps c.step.ensures.err c.step.ensures.costs
