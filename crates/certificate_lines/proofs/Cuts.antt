@@ -10,7 +10,7 @@ use Rattle.std.proofs.lemmas.List.Sums.{fails_before_first}
 use Rattle.line_text.specs.Lines.{onto_first}
 use Rattle.line_text.specs.Reads.{◌>>=◌}
 use Rattle.line_text.proofs.Inverse.{bind_some, some_same}
-use Rattle.certificate_lines.specs.Words.{behind, cut, is_byte, spaced, words_of}
+use Rattle.certificate_lines.specs.Words.{behind, cut, is_byte, is_none, spaced, words_left, words_of}
 
 -- ---- where the code cuts
 
@@ -144,12 +144,21 @@ pub words_again : (w : List ℕ) (ws : List (List ℕ)) → IsWhole w → AllByR
 words_again w [] h all = ap words_of (append-nil w) ∙ word_alone w h
 words_again w (v ∷ ws) h all = word_more w (v ++ behind ws) h ∙ ap (λ (vs : List (List ℕ)). w ∷ vs) (words_again v ws all.0 all.1)
 
--- ---- a turn of the cutting
+-- ---- a word is taken
 
-pub word_turn : (found new : List (List ℕ)) (word rest : List ℕ) (r : List ℕ × List ℕ) (all : List (List ℕ)) → cut (is_byte 32) rest ≡ Some r → word ≡ r.0 → new ≡ found ++ word ∷ [] → found ++ words_of rest ≡ all → new ++ words_of r.1 ≡ all
-word_turn found new word rest r all e same pushed so_far =
-    rw (pushed, same) (append_assoc found (r.0 ∷ []) (words_of r.1)) ∙ ap (λ (ws : List (List ℕ)). found ++ ws) (sym (words_cut rest r e)) ∙ so_far
+pub next_word : (line : List ℕ) (r : List ℕ × List ℕ) (all_read : Bool) → all_read ≡ false → cut (is_byte 32) line ≡ Some r → words_left all_read line ≡ r.0 ∷ words_left all_read r.1
+next_word line r all_read e cut_here = rw e (words_cut line r cut_here)
 
-pub word_ends : (found new : List (List ℕ)) (word rest : List ℕ) (all : List (List ℕ)) → cut (is_byte 32) rest ≡ None → word ≡ rest → new ≡ found ++ word ∷ [] → found ++ words_of rest ≡ all → new ≡ all
-word_ends found new word rest all e same pushed so_far =
-    pushed ∙ ap (λ (w : List ℕ). found ++ w ∷ []) same ∙ ap (λ (ws : List (List ℕ)). found ++ ws) (sym (words_last rest e)) ∙ so_far
+pub last_word : (line : List ℕ) (all_read : Bool) → all_read ≡ false → cut (is_byte 32) line ≡ None → words_left all_read line ≡ line ∷ []
+last_word line all_read e never = rw e (words_last line never)
+
+either_some : (t : Bool) (b : ℕ) (ws : List (List ℕ)) → is_none (cond t ([] ∷ ws) (onto_first b ws)) ≡ false
+either_some true b ws = refl
+either_some false b [] = refl
+either_some false b (w ∷ ws) = refl
+
+-- a line has a word, and so only what was read whole has none left
+pub none_left : (line : List ℕ) (all_read : Bool) → is_none (words_left all_read line) ≡ all_read
+none_left line true = refl
+none_left [] false = refl
+none_left (b ∷ bs) false = either_some (eqb b 32) b (words_of bs)

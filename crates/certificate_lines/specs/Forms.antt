@@ -106,6 +106,13 @@ case_form ws = do
   verb ← word_at case.1
   case_behind case.0 verb.0 verb.1
 
+-- the literals before the first `;`, and the words behind it
+unfoldable pub lits_before : List (List ℕ) → Option (List Lit × List (List ℕ))
+lits_before ws = do
+  sides ← cut_words ws
+  lits ← each lit_of sides.0
+  Some (lits, sides.1)
+
 -- LIT LIT ; HINT HINT
 unfoldable pub step_form : List (List ℕ) → Option Step
 step_form ws = do

@@ -1,5 +1,5 @@
 -- The words of a line.
-use Rattle.std.specs.Prelude.{ℕ, Bool, List, [], ◌∷◌, ◌++◌, Option, Some, None, if◌then◌else◌, ◌==◌, codes}
+use Rattle.std.specs.Prelude.{ℕ, Bool, true, false, List, [], ◌∷◌, ◌++◌, Option, Some, None, if◌then◌else◌, ◌==◌, codes}
 use Rattle.std.specs.Str.{bytes_eq}
 use Rattle.line_text.specs.Lines.{onto_first}
 use Rattle.line_text.specs.Reads.{◌>>=◌}
@@ -8,6 +8,15 @@ use Rattle.line_text.specs.Reads.{◌>>=◌}
 abbrev pub words_of : List ℕ → List (List ℕ)
 words_of [] = [] ∷ []
 words_of (b ∷ bs) = if b == 32 then [] ∷ words_of bs else onto_first b (words_of bs)
+
+-- the words of a line that is left, unless all were read
+abbrev pub words_left : Bool → List ℕ → List (List ℕ)
+words_left true line = []
+words_left false line = words_of line
+
+abbrev pub is_none : List (List ℕ) → Bool
+is_none [] = true
+is_none (w ∷ ws) = false
 
 -- each word behind a blank
 abbrev pub behind : List (List ℕ) → List ℕ

@@ -7,53 +7,54 @@ ghost use Rattle.certificate_lines.specs.Texts.{line_text};
 
 use crate::line::{KindLine, TextLine};
 use crate::word::Word;
-use crate::words::{cut_words, words_of};
-use ground_clauses::Step;
-use ind_base::{List, Text};
+use crate::words::Words;
+use ground_clauses::{Lit, Step};
+use ind_base::List;
 use line_text::{FormError, same};
 use std::alloc::Global;
 
-/// The first word, and those behind it.
+/// Reads the next word.
 #[tactic(auto, unfolding(crate::specs::Forms::word_at))]
-fn word_at(words: &[Text]) -> Result<(&[u8], &[Text]), FormError>
-    ensures { Gives (λ x. (x.0.now, x.1.now)) result (forms.word_at words.now) }
+fn word_at<'a>(words: &mut Words<'a>) -> Result<&'a [u8], FormError>
+    ensures { Gives (λ word. (word.now, words.new)) result (forms.word_at words.old) }
 {
-    match words {
-        [word, rest @ ..] => Ok((word.as_slice(), rest)),
-        _ => Err(FormError::Refused),
+    match words.next() {
+        Some(word) => Ok(word),
+        None => Err(FormError::Refused),
     }
 }
 
-/// A number, and the words behind it.
+/// Reads a number.
 #[tactic(auto, unfolding(crate::specs::Forms::number_at))]
-fn number_at(words: &[Text]) -> Result<(u32, &[Text]), FormError>
-    ensures { Gives (λ x. (x.0, x.1.now)) result (forms.number_at words.now) }
+fn number_at(words: &mut Words) -> Result<u32, FormError>
+    ensures { Gives (λ number. (number, words.new)) result (forms.number_at words.old) }
 {
-    let (word, rest) = word_at(words)?;
+    let word = word_at(words)?;
     match u32::read(word) {
-        Some(number) => Ok((number, rest)),
+        Some(number) => Ok(number),
         None => Err(FormError::Refused),
     }
 }
 
 /// That nothing follows.
 #[tactic(auto, unfolding(crate::specs::Forms::ended))]
-fn ended(words: &[Text]) -> Result<(), FormError>
+fn ended(words: &Words) -> Result<(), FormError>
     ensures { Gives (λ x. x) result (forms.ended words.now) }
 {
-    match words {
-        [] => Ok(()),
-        _ => Err(FormError::Refused),
+    if words.is_empty() {
+        Ok(())
+    } else {
+        Err(FormError::Refused)
     }
 }
 
 /// What each of the words says.
-fn each<W: Word>(alloc: Global, words: &[Text]) -> Result<List<W>, FormError>
-    ensures { Gives (λ xs. xs) result (forms.each W.reads words.now) }
+fn each<W: Word>(alloc: Global, words: &mut Words) -> Result<List<W>, FormError>
+    ensures { Gives (λ xs. xs) result (forms.each W.reads words.old) }
 {
     let mut found = List::new(alloc);
-    for word in words {
-        match W::read(word.as_slice()) {
+    'reading: while let Some(word) = words.next() {
+        match W::read(word) {
             Some(x) => found.push(x)?,
             None => return Err(FormError::Refused),
         }
@@ -61,15 +62,32 @@ fn each<W: Word>(alloc: Global, words: &[Text]) -> Result<List<W>, FormError>
     Ok(found)
 }
 
+/// The literals before the first `;`.
+fn lits_before(alloc: Global, words: &mut Words) -> Result<List<Lit>, FormError>
+    ensures { Gives (λ lits. (lits, words.new)) result (forms.lits_before words.old) }
+{
+    let mut found = List::new(alloc);
+    'reading: while let Some(word) = words.next() {
+        if same(word, b";") {
+            return Ok(found);
+        }
+        match Lit::read(word) {
+            Some(lit) => found.push(lit)?,
+            None => return Err(FormError::Refused),
+        }
+    }
+    Err(FormError::Refused)
+}
+
 /// `K OP OP I=J I=J`
 #[tactic(auto, unfolding(crate::specs::Forms::kind_form))]
-fn kind_form(alloc: Global, words: &[Text]) -> Result<KindLine, FormError>
-    ensures { Gives (λ x. x) result (forms.kind_form words.now) }
+fn kind_form(alloc: Global, words: &mut Words) -> Result<KindLine, FormError>
+    ensures { Gives (λ x. x) result (forms.kind_form words.old) }
 {
-    let (number, rest) = number_at(words)?;
-    let (first, rest) = word_at(rest)?;
-    let (second, rest) = word_at(rest)?;
-    let key = each(alloc, rest)?;
+    let number = number_at(words)?;
+    let first = word_at(words)?;
+    let second = word_at(words)?;
+    let key = each(alloc, words)?;
     let first = List::from_slice(alloc, first)?;
     let second = List::from_slice(alloc, second)?;
     Ok(KindLine {
@@ -82,12 +100,12 @@ fn kind_form(alloc: Global, words: &[Text]) -> Result<KindLine, FormError>
 
 /// `lock K` or `part K` of a case.
 #[tactic(auto, unfolding(crate::specs::Forms::sep_form))]
-fn sep_form(case: u32, words: &[Text]) -> Result<TextLine, FormError>
-    ensures { Gives (λ x. x) result (forms.sep_form case words.now) }
+fn sep_form(case: u32, words: &mut Words) -> Result<TextLine, FormError>
+    ensures { Gives (λ x. x) result (forms.sep_form case words.old) }
 {
-    let (kind, rest) = word_at(words)?;
-    let (place, rest) = number_at(rest)?;
-    ended(rest)?;
+    let kind = word_at(words)?;
+    let place = number_at(words)?;
+    ended(words)?;
     if same(kind, b"lock") {
         Ok(TextLine::SepLock { case, lock: place })
     } else if same(kind, b"part") {
@@ -99,47 +117,44 @@ fn sep_form(case: u32, words: &[Text]) -> Result<TextLine, FormError>
 
 /// `COUNT` of a case.
 #[tactic(auto, unfolding(crate::specs::Forms::refuted_form))]
-fn refuted_form(case: u32, words: &[Text]) -> Result<TextLine, FormError>
-    ensures { Gives (λ x. x) result (forms.refuted_form case words.now) }
+fn refuted_form(case: u32, words: &mut Words) -> Result<TextLine, FormError>
+    ensures { Gives (λ x. x) result (forms.refuted_form case words.old) }
 {
-    let (count, rest) = number_at(words)?;
-    ended(rest)?;
+    let count = number_at(words)?;
+    ended(words)?;
     Ok(TextLine::Refuted { case, count })
 }
 
 /// `C sep lock K`, `C sep part K` or `C refuted COUNT`
 #[tactic(auto, unfolding(crate::specs::Forms::case_form))]
-fn case_form(words: &[Text]) -> Result<TextLine, FormError>
-    ensures { Gives (λ x. x) result (forms.case_form words.now) }
+fn case_form(words: &mut Words) -> Result<TextLine, FormError>
+    ensures { Gives (λ x. x) result (forms.case_form words.old) }
 {
-    let (case, rest) = number_at(words)?;
-    let (verb, rest) = word_at(rest)?;
+    let case = number_at(words)?;
+    let verb = word_at(words)?;
     if same(verb, b"sep") {
-        sep_form(case, rest)
+        sep_form(case, words)
     } else if same(verb, b"refuted") {
-        refuted_form(case, rest)
+        refuted_form(case, words)
     } else {
         Err(FormError::Refused)
     }
 }
 
 /// `LIT LIT ; HINT HINT`
-#[tactic(auto, unfolding(crate::specs::Forms::step_form))]
-fn step_form(alloc: Global, words: &[Text]) -> Result<Step, FormError>
-    ensures { Gives (λ x. x) result (forms.step_form words.now) }
+#[tactic(auto, using(crate::proofs::Each::step_parts))]
+fn step_form(alloc: Global, words: &mut Words) -> Result<Step, FormError>
+    ensures { Gives (λ x. x) result (forms.step_form words.old) }
 {
-    let Some((front, behind)) = cut_words(words) else {
-        return Err(FormError::Refused);
-    };
-    let lits = each(alloc, front)?;
-    let hints = each(alloc, behind)?;
+    let lits = lits_before(alloc, words)?;
+    let hints = each(alloc, words)?;
     Ok(Step { lits, hints })
 }
 
 /// This line, where nothing follows its word.
 #[tactic(auto, unfolding(crate::specs::Forms::alone))]
-fn alone(line: TextLine, words: &[Text]) -> Result<TextLine, FormError>
-    ensures { Gives (λ x. x) result (forms.alone line words.now) }
+fn alone(line: TextLine, words: &mut Words) -> Result<TextLine, FormError>
+    ensures { Gives (λ x. x) result (forms.alone line words.old) }
 {
     ended(words)?;
     Ok(line)
@@ -147,17 +162,17 @@ fn alone(line: TextLine, words: &[Text]) -> Result<TextLine, FormError>
 
 /// A line of a plan behind its first word, or the first line of a certificate.
 #[tactic(auto, unfolding(crate::specs::Forms::plan_form))]
-fn plan_form(alloc: Global, word: &[u8], rest: &[Text]) -> Result<TextLine, FormError>
-    ensures { Gives (λ x. x) result (forms.plan_form word.now rest.now) }
+fn plan_form(alloc: Global, word: &[u8], words: &mut Words) -> Result<TextLine, FormError>
+    ensures { Gives (λ x. x) result (forms.plan_form word.now words.old) }
 {
     if same(word, b"lock") {
-        Ok(TextLine::Lock(kind_form(alloc, rest)?))
+        Ok(TextLine::Lock(kind_form(alloc, words)?))
     } else if same(word, b"part") {
-        Ok(TextLine::Part(kind_form(alloc, rest)?))
+        Ok(TextLine::Part(kind_form(alloc, words)?))
     } else if same(word, b"plan") {
-        alone(TextLine::Plan, rest)
+        alone(TextLine::Plan, words)
     } else if same(word, b"certificate") {
-        alone(TextLine::Certificate, rest)
+        alone(TextLine::Certificate, words)
     } else {
         Err(FormError::Refused)
     }
@@ -165,17 +180,17 @@ fn plan_form(alloc: Global, word: &[u8], rest: &[Text]) -> Result<TextLine, Form
 
 /// A line behind its first word.
 #[tactic(auto, unfolding(crate::specs::Forms::form))]
-fn form(alloc: Global, word: &[u8], rest: &[Text]) -> Result<TextLine, FormError>
-    ensures { Gives (λ x. x) result (forms.form word.now rest.now) }
+fn form(alloc: Global, word: &[u8], words: &mut Words) -> Result<TextLine, FormError>
+    ensures { Gives (λ x. x) result (forms.form word.now words.old) }
 {
     if same(word, b"step") {
-        Ok(TextLine::Step(step_form(alloc, rest)?))
+        Ok(TextLine::Step(step_form(alloc, words)?))
     } else if same(word, b"case") {
-        case_form(rest)
+        case_form(words)
     } else if same(word, b"end") {
-        alone(TextLine::End, rest)
+        alone(TextLine::End, words)
     } else {
-        plan_form(alloc, word, rest)
+        plan_form(alloc, word, words)
     }
 }
 
@@ -184,9 +199,9 @@ fn form(alloc: Global, word: &[u8], rest: &[Text]) -> Result<TextLine, FormError
 fn read_line(alloc: Global, line: &[u8]) -> Result<TextLine, FormError>
     ensures { Gives (λ x. x) result (forms.line_of line.now) }
 {
-    let words = words_of(alloc, line)?;
-    let (word, rest) = word_at(words.as_slice())?;
-    form(alloc, word, rest)
+    let mut words = Words::of(line);
+    let word = word_at(&mut words)?;
+    form(alloc, word, &mut words)
 }
 
 /// The line that these bytes are, without a line end. A line has one text alone.

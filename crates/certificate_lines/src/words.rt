@@ -1,11 +1,9 @@
 //! The words of a line.
 
-ghost use Rattle.std.specs.Prelude.{◌≡◌, IfOk, MatchOption, None, Some, position};
+ghost use Rattle.std.specs.Prelude.{◌≡◌, [], ◌∷◌, MatchOption, None, Some, position};
 ghost use Rattle.certificate_lines.specs.Words as definitions;
 
-use ind_base::{List, NoMemory, Text};
-use line_text::same;
-use std::alloc::Global;
+use std::marker::Model;
 
 /// Where this byte stands first.
 fn place_of(c: u8, bytes: &[u8]) -> Option<usize>
@@ -28,42 +26,56 @@ pub(crate) fn cut_at(c: u8, bytes: &[u8]) -> Option<(&[u8], &[u8])>
     }
 }
 
-/// Where `;` stands first.
-fn place_of_mark(words: &[Text]) -> Option<usize>
-    ensures { result ≡ position definitions.is_semicolon words.now }
-{
-    words.iter().position(|w| same(w.as_slice(), b";"))
+/// The words of a line that weren't read yet. One blank stands between two, so that an empty line is
+/// one empty word.
+#[derive(Drop)]
+pub(crate) struct Words<'a> {
+    rest: &'a [u8],
+    all_read: bool,
 }
 
-/// The words before and behind the first `;`.
-pub(crate) fn cut_words(words: &[Text]) -> Option<(&[Text], &[Text])>
-    ensures { MatchOption result (definitions.cut_words words.now ≡ None) (λ x. definitions.cut_words words.now ≡ Some (x.0.now, x.1.now)) }
-{
-    match place_of_mark(words) {
-        Some(at) => {
-            let (front, rest) = words.split_at(at);
-            let (_, behind) = rest.split_at(1);
-            Some((front, behind))
+impl<'a> Model for Words<'a> {
+    ghost use Rattle.std.specs.Prelude.{ℕ, List};
+    ghost use Rattle.certificate_lines.specs.Words.{words_left};
+
+    ghost Value = { List (List ℕ) };
+
+    ghost view = { λ w. words_left w.all_read w.rest.now };
+}
+
+impl<'a> Words<'a> {
+    /// Before the first word of a line.
+    pub(crate) fn of(line: &'a [u8]) -> Words<'a>
+        ensures { result ≡ definitions.words_of line.now }
+    {
+        Words {
+            rest: line,
+            all_read: false,
         }
-        None => None,
     }
-}
 
-/// The words of a line. One blank stands between two, so that an empty line is one empty word.
-pub(crate) fn words_of(alloc: Global, line: &[u8]) -> Result<List<Text>, NoMemory>
-    ensures { IfOk result (λ ws. ws ≡ definitions.words_of line.now) }
-{
-    let mut found = List::new(alloc);
-    let mut rest = line;
-    'cutting: loop {
-        match cut_at(b' ', rest) {
+    /// Whether all were read.
+    pub(crate) fn is_empty(&self) -> bool
+        ensures { result ≡ definitions.is_none self.now }
+    {
+        self.all_read
+    }
+
+    /// Reads the next word.
+    pub(crate) fn next(&mut self) -> Option<&'a [u8]>
+        ensures { MatchOption result (self.old ≡ []) (λ word. self.old ≡ word.now ∷ self.new) }
+    {
+        if self.all_read {
+            return None;
+        }
+        match cut_at(b' ', self.rest) {
             Some((word, behind)) => {
-                found.push(List::from_slice(alloc, word)?)?;
-                rest = behind;
+                self.rest = behind;
+                Some(word)
             }
             None => {
-                found.push(List::from_slice(alloc, rest)?)?;
-                return Ok(found);
+                self.all_read = true;
+                Some(self.rest)
             }
         }
     }
