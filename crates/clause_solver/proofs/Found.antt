@@ -222,10 +222,10 @@ values_least rows t w is solves v same here =
     (ap (λ vs. value_at vs v) (sym is.values) ∙ is_yes-cases (value_at t.values v) (sym (truth_value t.values v) ∙ here))
 
 pub least_found : (cnf : Cnf) (s : Search) → IsSearch cnf s → SpeaksOf cnf.vars cnf.clauses → KnownBelow (length s.trail.values) s.trail.values
-    → ((r : ℕ) → IsConflict s.rows.clauses s.trail.values r → ⊥) → IsLeastModel cnf (map is_yes s.trail.values)
+    → ((r : ℕ) → IsConflict s.rows s.trail.values r → ⊥) → IsLeastModel cnf (map is_yes s.trail.values)
 least_found cnf s is speaks known none = record {
   model = values_model cnf s.steps s.trail.values is.size speaks known (λ r h. none r (subst (λ rows. IsConflict rows s.trail.values r) (sym is.rows) h));
-  least = λ w m. values_least s.rows.clauses s.trail w is.trail (subst (Solves (truth_in w)) (sym is.rows) (solves_rows (truth_in w) cnf.clauses s.steps m.solves is.right));
+  least = λ w m. values_least s.rows s.trail w is.trail (subst (Solves (truth_in w)) (sym is.rows) (solves_rows (truth_in w) cnf.clauses s.steps m.solves is.right));
 }
 
 -- ---- a row more
@@ -245,13 +245,13 @@ pub trail_more : (rows : List (List Lit)) (c : List Lit) (t : Trail) → IsTrail
 trail_more rows c t is = record { few = is.few; values = is.values; follow = follow_more rows c (blank (length t.values)) t.entries is.follow }
 
 -- one step more
-pub learned : (cnf : Cnf) (s new : Search) (step : Step) → is_right s.rows.clauses step ≡ true → new.rows.clauses ≡ s.rows.clauses ++ step.lits ∷ [] → new.steps ≡ s.steps ++ step ∷ []
+pub learned : (cnf : Cnf) (s new : Search) (step : Step) → is_right s.rows step ≡ true → new.rows ≡ s.rows ++ step.lits ∷ [] → new.steps ≡ s.steps ++ step ∷ []
     → length new.trail.values ≡ length s.trail.values → ((rows : List (List Lit)) → IsTrail rows s.trail → IsTrail rows new.trail) → IsSearch cnf s → IsSearch cnf new
 learned cnf s new step right rows steps size trail is = record {
   size = size ∙ is.size;
   rows = rows ∙ ap (λ cs. cs ++ step.lits ∷ []) is.rows ∙ sym (rows_push cnf.clauses s.steps step) ∙ ap (rows_of cnf.clauses) (sym steps);
   right = ap (steps_right cnf.clauses) steps ∙ right_push cnf.clauses s.steps step is.right (subst (λ cs. is_right cs step ≡ true) is.rows right);
-  trail = subst (λ cs. IsTrail cs new.trail) (sym rows) (trail_more s.rows.clauses step.lits new.trail (trail s.rows.clauses is.trail));
+  trail = subst (λ cs. IsTrail cs new.trail) (sym rows) (trail_more s.rows step.lits new.trail (trail s.rows is.trail));
 }
 
 pub ended_empty : (steps old : List Step) (step : Step) → steps ≡ old ++ step ∷ [] → step.lits ≡ [] → ends_empty steps ≡ true

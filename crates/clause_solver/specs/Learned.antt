@@ -15,6 +15,6 @@ rows_of clauses (s ∷ steps) = rows_of (clauses ++ s.lits ∷ []) steps
 -- every row stands in the query or was learned by a step that is right
 pub record IsSearch (cnf : Cnf) (s : Search) : Type 0 where
   pub size : length s.trail.values ≡ cnf.vars
-  pub rows : s.rows.clauses ≡ rows_of cnf.clauses s.steps
+  pub rows : s.rows ≡ rows_of cnf.clauses s.steps
   pub right : steps_right cnf.clauses s.steps ≡ true
-  pub trail : IsTrail s.rows.clauses s.trail
+  pub trail : IsTrail s.rows s.trail

@@ -108,8 +108,8 @@ fn keeps(trail: &Trail, marks: &Items<bool>, choices: Choices, at: usize) -> boo
 impl Analysis {
     /// The conflict alone.
     fn begin(alloc: Global, rows: &Rows, trail: &Trail, conflict: u32) -> Result<Analysis, NoMemory>
-        requires { IsConflict rows.now.clauses trail.now.values conflict }
-        ensures { IfOk result (λ a. IsRefuting rows.now.clauses trail.now.values a) }
+        requires { IsConflict rows.now trail.now.values conflict }
+        ensures { IfOk result (λ a. IsRefuting rows.now trail.now.values a) }
     {
         let mut analysis = Analysis {
             marks: no_marks(alloc, trail.values.len())?,
@@ -131,10 +131,10 @@ impl Analysis {
     fn expand(&mut self, rows: &Rows, row: u32) -> Result<(), NoMemory>
         ensures lits { self.new.lits ≡ self.old.lits }
         ensures hints { OnOk result (self.new.hints ≡ self.old.hints ++ row ∷ []) }
-        ensures marks { (c : List GroundLit) → slice_get rows.now.clauses row ≡ Some c → IsMarked self.old.marks self.new.marks c }
+        ensures marks { (c : List GroundLit) → slice_get rows.now row ≡ Some c → IsMarked self.old.marks self.new.marks c }
     {
-        if let Some(clause) = rows.clauses.get(row as usize) {
-            mark(&mut self.marks, clause.as_slice());
+        if let Some(clause) = rows.clause(row) {
+            mark(&mut self.marks, clause);
         }
         self.hints.push(row)
     }
@@ -147,10 +147,10 @@ impl Analysis {
         choices: Choices,
         at: usize,
     ) -> Result<(), NoMemory>
-        requires trail { IsTrail rows.now.clauses trail.now }
+        requires trail { IsTrail rows.now trail.now }
         requires place { at < length trail.now.entries }
-        requires refutes { IsRefuting rows.now.clauses (values_before trail.now (at + 1)) self.old }
-        ensures { OnOk result (IsRefuting rows.now.clauses (values_before trail.now at) self.new) }
+        requires refutes { IsRefuting rows.now (values_before trail.now (at + 1)) self.old }
+        ensures { OnOk result (IsRefuting rows.now (values_before trail.now at) self.new) }
     {
         let entry = trail.entry(at);
         if !is_marked(&self.marks, entry.lit.var) {
@@ -189,9 +189,9 @@ pub(crate) fn learn(
     trail: &Trail,
     conflict: u32,
 ) -> Result<Step, NoMemory>
-    requires trail { IsTrail rows.now.clauses trail.now }
-    requires conflict { IsConflict rows.now.clauses trail.now.values conflict }
-    ensures { IfOk result (λ s. is_right rows.now.clauses s ≡ true) }
+    requires trail { IsTrail rows.now trail.now }
+    requires conflict { IsConflict rows.now trail.now.values conflict }
+    ensures { IfOk result (λ s. is_right rows.now s ≡ true) }
 {
     let mut analysis = Analysis::begin(alloc, rows, trail, conflict)?;
     let choices = choices_of(trail);

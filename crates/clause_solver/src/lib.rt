@@ -7,6 +7,7 @@ mod learning;
 mod propagation;
 mod rows;
 mod solving;
+mod uses;
 
 pub use answer::{Answer, SolveError};
 pub use solving::solve;

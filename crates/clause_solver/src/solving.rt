@@ -13,7 +13,7 @@ ghost use Rattle.clause_solver.specs.declared.answer.SolveError.TheVariants as e
 use crate::answer::{Answer, SolveError};
 use crate::assignment::{Cause, Trail};
 use crate::learning::learn;
-use crate::propagation::descend;
+use crate::propagation::{descend, examine_from};
 use crate::rows::Rows;
 use ground_clauses::{Cnf, Derivation, Lit, Step};
 use ind_base::{List as Items, NoMemory};
@@ -25,8 +25,8 @@ const MOST_VARIABLES: u32 = 128;
 /// The clauses and those learned from them, the values so far, and the steps. The rows from `first`
 /// on were not looked at yet.
 #[derive(Drop)]
-pub(crate) struct Search {
-    pub(crate) rows: Rows,
+pub(crate) struct Search<'a> {
+    pub(crate) rows: Rows<'a>,
     pub(crate) trail: Trail,
     pub(crate) steps: Items<Step>,
     pub(crate) first: u32,
@@ -59,9 +59,9 @@ fn places_kept(trail: &Trail, lits: &[Lit]) -> usize {
     trail.entries.len()
 }
 
-impl Search {
+impl<'a> Search<'a> {
     /// Nothing was learned so far.
-    fn begin(alloc: Global, cnf: &Cnf) -> Result<Search, NoMemory>
+    fn begin(alloc: Global, cnf: &'a Cnf) -> Result<Search<'a>, NoMemory>
         requires { cnf.now.vars ≤ 128 }
         ensures { IfOk result (λ s. IsSearch cnf.now s) }
     {
@@ -75,20 +75,24 @@ impl Search {
 
     /// Looks for a conflict; without one the values are those of the least model.
     fn descend(&mut self) -> Result<Option<u32>, NoMemory>
-        requires { IsTrail self.old.rows.clauses self.old.trail }
+        requires { IsTrail self.old.rows self.old.trail }
         ensures search { (cnf : GroundCnf) → IsSearch cnf self.old → IfOk result (λ _. IsSearch cnf self.new) }
-        ensures conflict { IfOk result (λ found. IfSome found (λ row. IsConflict self.new.rows.clauses self.new.trail.values row)) }
+        ensures conflict { IfOk result (λ found. IfSome found (λ row. IsConflict self.new.rows self.new.trail.values row)) }
         ensures model { (cnf : GroundCnf) → SpeaksOf cnf.vars cnf.clauses → IsSearch cnf self.old → IfOk result (λ found. IfNone found (IsLeastModel cnf (map is_yes self.new.trail.values))) }
     {
-        let found = descend(&self.rows, &mut self.trail, self.first)?;
+        if let Some(row) = examine_from(&self.rows, &mut self.trail, self.first)? {
+            return Ok(Some(row));
+        }
+        self.rows.note_all()?;
+        let found = descend(&self.rows, &mut self.trail)?;
         Ok(found)
     }
 
     /// Learns a clause from a conflict, and goes back to where it forces a literal; whether it has
     /// no literals.
     fn learn(&mut self, alloc: Global, conflict: u32) -> Result<bool, NoMemory>
-        requires trail { IsTrail self.old.rows.clauses self.old.trail }
-        requires conflict { IsConflict self.old.rows.clauses self.old.trail.values conflict }
+        requires trail { IsTrail self.old.rows self.old.trail }
+        requires conflict { IsConflict self.old.rows self.old.trail.values conflict }
         ensures search { (cnf : GroundCnf) → IsSearch cnf self.old → IfOk result (λ _. IsSearch cnf self.new) }
         ensures ended { IfOk result (λ ended. IsTrue ended → ends_empty self.new.steps ≡ true) }
     {

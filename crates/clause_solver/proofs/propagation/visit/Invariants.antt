@@ -1,5 +1,5 @@
 use Rattle.clause_solver.specs.Search.{Moves}
 use Rattle.clause_solver.proofs.propagation.visit.Given as goal
 
-abbrev pub invariant-loop-row : goal.invariant-loop-row
-invariant-loop-row l = Moves l.rows.clauses l.fn.trail l.trail
+abbrev pub invariant-loop : goal.invariant-loop
+invariant-loop l = Moves l.rows l.fn.trail l.trail
