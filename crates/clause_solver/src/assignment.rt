@@ -71,11 +71,9 @@ fn value_of(yes: bool) -> Value
 fn blank_values(alloc: Global, vars: u32) -> Result<Items<Value>, NoMemory>
     ensures { IfOk result (λ values. values ≡ blank vars) }
 {
-    let mut values = Items::new(alloc);
-    for _ in 0..vars {
-        values.push(Value::Open)?;
-    }
-    Ok(values)
+    let mut values = Vec::new(alloc);
+    values.resize(vars as usize, Value::Open)?;
+    Ok(Items::from_vec(values))
 }
 
 impl Trail {

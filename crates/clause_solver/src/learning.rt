@@ -64,11 +64,9 @@ fn mark(marks: &mut Items<bool>, clause: &[Lit])
 fn no_marks(alloc: Global, vars: usize) -> Result<Items<bool>, NoMemory>
     ensures { IfOk result (λ marks. length marks ≡ vars) }
 {
-    let mut marks = Items::new(alloc);
-    for _ in 0..vars {
-        marks.push(false)?;
-    }
-    Ok(marks)
+    let mut marks = Vec::new(alloc);
+    marks.resize(vars, false)?;
+    Ok(Items::from_vec(marks))
 }
 
 /// Where the choices stand.

@@ -57,15 +57,15 @@ fn count_of(given: &[List<Lit>], learned: &[List<Lit>]) -> Option<u32>
 
 impl<'a> Rows<'a> {
     /// The clauses of a query.
-    pub(crate) fn over(alloc: Global, cnf: &'a Cnf) -> Result<Rows<'a>, NoMemory>
-        ensures { IfOk result (λ rows. rows ≡ cnf.now.clauses) }
+    pub(crate) fn over(alloc: Global, cnf: &'a Cnf) -> Rows<'a>
+        ensures { result ≡ cnf.now.clauses }
     {
-        Ok(Rows {
+        Rows {
             given: cnf.clauses.as_slice(),
             learned: List::new(alloc),
-            uses: Uses::new(alloc, cnf.vars)?,
+            uses: Uses::new(alloc, cnf.vars),
             next: 0,
-        })
+        }
     }
 
     /// How many clauses there are, up to a number at which memory counts as missing.
@@ -104,6 +104,7 @@ impl<'a> Rows<'a> {
     pub(crate) fn note_all(&mut self) -> Result<(), NoMemory>
         ensures { OnOk result (self.new ≡ self.old) }
     {
+        self.uses.begin()?;
         let count = self.count()?;
         for row in self.next..count {
             self.note(row)?;

@@ -66,7 +66,7 @@ impl<'a> Search<'a> {
         ensures { IfOk result (λ s. IsSearch cnf.now s) }
     {
         Ok(Search {
-            rows: Rows::over(alloc, cnf)?,
+            rows: Rows::over(alloc, cnf),
             trail: Trail::new(alloc, cnf.vars)?,
             steps: Items::new(alloc),
             first: 0,

@@ -22,9 +22,10 @@ struct Ends {
 }
 
 /// For each literal, by its code, the clauses that it stands in, in their order. What the index
-/// names is tried and never relied on.
+/// names is tried and never relied on. It takes no memory before a clause is noted.
 #[derive(Drop)]
 pub(crate) struct Uses {
+    vars: u32,
     ends: Vec<Ends>,
     uses: Vec<Use>,
 }
@@ -36,19 +37,22 @@ fn code_of(lit: &Lit) -> usize {
 
 impl Uses {
     /// No uses, of so many variables.
-    pub(crate) fn new(alloc: Global, vars: u32) -> Result<Uses, NoMemory> {
-        let mut ends = Vec::new(alloc);
+    pub(crate) fn new(alloc: Global, vars: u32) -> Uses {
+        Uses {
+            vars,
+            ends: Vec::new(alloc),
+            uses: Vec::new(alloc),
+        }
+    }
+
+    /// Makes room for the ends of each literal.
+    pub(crate) fn begin(&mut self) -> Result<(), NoMemory> {
         let none = Ends {
             first: NOWHERE,
             last: NOWHERE,
         };
-        for _ in 0..2 * u64::from(vars) {
-            ends.push(none)?;
-        }
-        Ok(Uses {
-            ends,
-            uses: Vec::new(alloc),
-        })
+        self.ends.resize(2 * (self.vars as usize), none)?;
+        Ok(())
     }
 
     /// How many uses there are.

@@ -6,7 +6,7 @@ use Rattle.clause_solver.proofs.solving.Search.begin.Goals as goal
 pub returns : goal.returns
 returns c = record {
   size = c.in_ok-new.ensures.size;
-  rows = c.in_ok-over.ensures ∙ ap (rows_of c.args.cnf.now.clauses) (sym c.new-2.ensures);
+  rows = c.over.ensures ∙ ap (rows_of c.args.cnf.now.clauses) (sym c.new-2.ensures);
   right = ap (steps_right c.args.cnf.now.clauses) c.new-2.ensures;
-  trail = c.in_ok-new.ensures.trail c.in_ok-over.field-0;
+  trail = c.in_ok-new.ensures.trail c.over.result;
 }
