@@ -6,6 +6,7 @@ pub mod Counts
 pub mod Derives
 pub mod Finding
 pub mod Forms
+pub mod Fronts
 pub mod Hypotheses
 pub mod Keeps
 pub mod Known

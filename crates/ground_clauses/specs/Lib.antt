@@ -4,6 +4,7 @@ pub mod Cases
 pub mod Conflicting
 pub mod Counting
 pub mod Derivations
+pub mod Fronts
 pub mod Instances
 pub mod Laws
 pub mod Listing

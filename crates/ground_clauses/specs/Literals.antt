@@ -1,11 +1,9 @@
 -- Clauses by their premise and conclusion.
 use Rattle.std.specs.Prelude.{ℕ, Bool, false, List, Option, is_some, map}
 use Rattle.ground_clauses.specs.Cases.{case_sets}
-use Rattle.ground_clauses.specs.Query.{Sets, forms, literal_form}
+use Rattle.ground_clauses.specs.Query.{forms, literal_form}
 use Rattle.ground_clauses.specs.declared.state_lit.Form.{Form}
 use Rattle.ground_clauses.specs.declared.queries.Asked.{Asked}
-use Rattle.ground_clauses.specs.declared.touched.Side.{Side}
-use Rattle.ground_clauses.specs.declared.touched.Side.TheVariants.{One, Other}
 use Rattle.spec_model.specs.Truths.{values}
 use Rattle.spec_model.specs.declared.clause.Clause.{Clause}
 use Rattle.spec_model.specs.declared.clause.Literal.{Literal}
@@ -16,11 +14,6 @@ use Rattle.spec_model.specs.declared.state.Moment.{Moment}
 abbrev pub is_set : (ℕ → List ℕ → Option Bool) → List ℕ → Literal → Bool
 is_set sets cs (Atom p vars) = is_some (sets p (values cs vars))
 is_set sets cs (Equal l r) = false
-
--- what one of the two operations sets
-abbrev pub sets_of : Sets → Side → ℕ → List ℕ → Option Bool
-sets_of sets One = sets.one
-sets_of sets Other = sets.other
 
 -- what literals that need this truth are, in a state
 abbrev pub signed_forms : Asked → Moment → List ℕ → Bool → List Literal → List Form

@@ -1,18 +1,19 @@
 //! The touched cases of two operations, in canonical order.
 
-ghost use Rattle.std.specs.Prelude.{◌≡◌, ℕ, ◌<◌, ◌≤◌, ◌+◌, ◌^◌, ◌++◌, length, filter, IfOk, OnOk, min, suc, ◌∷◌, []};
+ghost use Rattle.std.specs.Prelude.{◌≡◌, true, ℕ, ◌<◌, ◌≤◌, ◌+◌, ◌^◌, ◌++◌, length, filter, IfOk, OnOk, min, suc, ◌∷◌, []};
 ghost use Rattle.std.specs.List.{flat_map, AllByRecursion};
 ghost use Rattle.spec_model.specs.Fits.{IsWellFormed};
 ghost use Rattle.spec_model.specs.Truths as truths;
 ghost use Rattle.ground_clauses.specs.Cases as canon;
 ghost use Rattle.ground_clauses.specs.Cases.{CaseKnown, TargetKnown, pair_cases};
 ghost use Rattle.ground_clauses.specs.Conflicting.{IsTouchedCase};
+ghost use Rattle.ground_clauses.specs.Fronts.{is_front};
 ghost use Rattle.ground_clauses.specs.Listing.{CaseFits, first_bits, second_bits, IsShape, RisesFrom, limit_at, listed_from, touched_of};
 
 use crate::case::{Case, Target};
 use crate::pattern::{class_count, pattern_sorts};
 use crate::places::op_at;
-use crate::touched::is_touched;
+use crate::touched::{has_front, is_touched};
 use crate::walk::Cases;
 use ind_base::{List, NoMemory};
 use spec_model::{Classes, Rule, Spec, Var};
@@ -32,7 +33,8 @@ fn interval_classes(sorts: &[u32], classes: &[u32], params: &[Var]) -> u64
 
 /// Appends the case, where it is touched.
 fn add_touched(spec: &Spec, case: &Case, found: &mut List<Case>) -> Result<(), NoMemory>
-    requires { CaseKnown spec.now case.now }
+    requires known { CaseKnown spec.now case.now }
+    requires front { is_front spec.now case.now ≡ true }
     ensures { OnOk result (found.new ≡ found.old ++ filter (canon.is_touched_case spec.now) (case.now ∷ [])) }
 {
     if is_touched(spec, case) {
@@ -52,7 +54,7 @@ fn weight(class: u32) -> u32
 }
 
 /// Appends the touched cases with all bits of the second interval from this class on.
-#[tactic(auto, using(crate::proofs::Listed::second_end, crate::proofs::Listed::second_step, crate::proofs::Listed::small_bit, crate::proofs::Listed::next_bit))]
+#[tactic(auto, using(crate::proofs::Listed::second_end, crate::proofs::Listed::second_step, crate::proofs::Listed::small_bit, crate::proofs::Listed::next_bit, crate::proofs::Fronts::front_kept))]
 fn add_second_bits(
     spec: &Spec,
     case: &Case,
@@ -63,6 +65,7 @@ fn add_second_bits(
     requires known { CaseKnown spec.now case.now }
     requires few { class + count ≤ 12 }
     requires below { case.now.bits_b < 2 ^ class }
+    requires front { is_front spec.now case.now ≡ true }
     ensures { OnOk result (found.new ≡ found.old ++ filter (canon.is_touched_case spec.now) (second_bits case.now class count)) }
 {
     if count == 0 {
@@ -95,7 +98,11 @@ fn add_first_bits(
     ensures { OnOk result (found.new ≡ found.old ++ filter (canon.is_touched_case spec.now) (first_bits case.now class count second)) }
 {
     if count == 0 {
-        return add_second_bits(spec, case, 0, second, found);
+        return if has_front(spec, case) {
+            add_second_bits(spec, case, 0, second, found)
+        } else {
+            Ok(())
+        };
     }
     add_first_bits(spec, case, class + 1, count - 1, second, found)?;
     let within = Case {

@@ -1,12 +1,13 @@
 //! Which cases are touched.
 
-ghost use Rattle.std.specs.Prelude.{◌≡◌, ◌<◌, ◌&&◌, take, drop, length, get_or};
+ghost use Rattle.std.specs.Prelude.{◌≡◌, ◌<◌, ◌&&◌, true, take, drop, length, get_or};
 ghost use Rattle.std.specs.List.{list_any};
 ghost use Rattle.spec_model.specs.Truths as truths;
 ghost use Rattle.ground_clauses.specs.Cases as cases;
 ghost use Rattle.ground_clauses.specs.Query as queries;
 ghost use Rattle.ground_clauses.specs.Cases.{CaseKnown};
-ghost use Rattle.ground_clauses.specs.Literals.{is_set, sets_of};
+ghost use Rattle.ground_clauses.specs.Fronts.{acts, front_at, is_front};
+ghost use Rattle.ground_clauses.specs.Literals.{is_set};
 
 use crate::case::{Case, Target};
 use crate::places::{clause_at, op_at};
@@ -123,33 +124,47 @@ pub fn target_classes<'a>(spec: &Spec, case: &'a Case) -> &'a [u32]
     target
 }
 
-/// One of the two operations of a case.
+/// An operation of a case, with its classes and the bits of its interval.
 #[derive(Clone, Copy)]
-enum Side {
-    One,
-    Other,
+pub(crate) struct Acting<'a> {
+    pub(crate) op: &'a Op,
+    pub(crate) classes: &'a [u32],
+    pub(crate) bits: u32,
 }
 
-/// What this operation of a case sets an atom to.
-fn side_sets(spec: &Spec, case: &Case, side: Side, pred: u32, args: &[u32]) -> Option<bool>
+/// The first operation of a case.
+fn first_acting<'a>(spec: &'a Spec, case: &'a Case) -> Acting<'a>
     requires { CaseKnown spec.now case.now }
-    ensures { result ≡ sets_of (cases.case_sets spec.now case.now) side pred args.now }
+    ensures { acts result ≡ (cases.case_sets spec.now case.now).one }
 {
-    match side {
-        Side::One => first_sets(spec, case, pred, args),
-        Side::Other => second_sets(spec, case, pred, args),
+    Acting {
+        op: op_at(spec, case.a),
+        classes: first_classes(spec, case),
+        bits: case.bits_a,
     }
 }
 
-/// Whether some of these literals is an atom that this operation of the case sets.
-fn sets_any(spec: &Spec, case: &Case, side: Side, literals: &[Literal], classes: &[u32]) -> bool
+/// The second operation of a case.
+fn second_acting<'a>(spec: &'a Spec, case: &'a Case) -> Acting<'a>
     requires { CaseKnown spec.now case.now }
-    ensures { result ≡ list_any (is_set (sets_of (cases.case_sets spec.now case.now) side) classes.now) literals.now }
+    ensures { acts result ≡ (cases.case_sets spec.now case.now).other }
+{
+    Acting {
+        op: op_at(spec, case.b),
+        classes: second_classes(spec, case),
+        bits: case.bits_b,
+    }
+}
+
+/// Whether some of these literals is an atom that the operation sets.
+fn sets_any(acting: &Acting<'_>, literals: &[Literal], classes: &[u32]) -> bool
+    ensures { result ≡ list_any (is_set (acts acting.now) classes.now) literals.now }
 {
     for literal in literals {
         if let Literal::Atom { pred, vars } = literal {
             let args = values(classes, vars);
-            if side_sets(spec, case, side, *pred, args.as_slice()).is_some() {
+            let args = args.as_slice();
+            if op_sets(acting.op, acting.classes, acting.bits, *pred, args).is_some() {
                 return true;
             }
         }
@@ -157,14 +172,13 @@ fn sets_any(spec: &Spec, case: &Case, side: Side, literals: &[Literal], classes:
     false
 }
 
-/// Whether this operation of the case touches the clause at the classes.
+/// Whether the operation touches the clause at the classes.
 #[tactic(auto, using(crate::proofs::Parts::touches_parts))]
-fn touches(spec: &Spec, case: &Case, side: Side, clause: &Clause, classes: &[u32]) -> bool
-    requires { CaseKnown spec.now case.now }
-    ensures { result ≡ cases.touches (sets_of (cases.case_sets spec.now case.now) side) (cases.over clause.now classes.now) }
+fn touches(acting: &Acting<'_>, clause: &Clause, classes: &[u32]) -> bool
+    ensures { result ≡ cases.touches (acts acting.now) (cases.over clause.now classes.now) }
 {
-    sets_any(spec, case, side, clause.premise.as_slice(), classes)
-        || sets_any(spec, case, side, clause.conclusion.as_slice(), classes)
+    sets_any(acting, clause.premise.as_slice(), classes)
+        || sets_any(acting, clause.conclusion.as_slice(), classes)
 }
 
 /// The class of the variable at this place.
@@ -198,17 +212,25 @@ pub(crate) fn equalities_true(clause: &Clause, classes: &[u32]) -> bool
         || equality_has(clause.conclusion.as_slice(), true, classes)
 }
 
-/// Whether both operations touch the clause, and its equalities don't make it true.
-fn clause_touched(spec: &Spec, case: &Case, place: u32) -> bool
+/// Whether the first operation touches the clause, and its equalities don't make it true.
+fn clause_front(spec: &Spec, case: &Case, place: u32) -> bool
     requires known { CaseKnown spec.now case.now }
     requires clause { place < length spec.now.clauses }
-    ensures { result ≡ cases.is_touched spec.now case.now place }
+    ensures { result ≡ front_at spec.now case.now place }
 {
     let clause = clause_at(spec, place);
     let classes = target_classes(spec, case);
-    touches(spec, case, Side::One, clause, classes)
-        && touches(spec, case, Side::Other, clause, classes)
-        && !equalities_true(clause, classes)
+    !equalities_true(clause, classes) && touches(&first_acting(spec, case), clause, classes)
+}
+
+/// Whether the second operation touches the clause.
+fn clause_behind(spec: &Spec, case: &Case, place: u32) -> bool
+    requires known { CaseKnown spec.now case.now }
+    requires clause { place < length spec.now.clauses }
+    ensures { result ≡ cases.touches (cases.case_sets spec.now case.now).other (cases.target_of spec.now case.now place) }
+{
+    let classes = target_classes(spec, case);
+    touches(&second_acting(spec, case), clause_at(spec, place), classes)
 }
 
 /// Whether the two operations give the locked predicate's atom opposite truths.
@@ -225,13 +247,26 @@ fn opposes(spec: &Spec, case: &Case, pred: u32) -> bool
     }
 }
 
-/// Whether a case is touched; of a locked predicate, whether it opposes.
-pub(crate) fn is_touched(spec: &Spec, case: &Case) -> bool
+/// Whether a case may be touched, by what doesn't go by the second interval.
+pub(crate) fn has_front(spec: &Spec, case: &Case) -> bool
     requires { CaseKnown spec.now case.now }
+    ensures { result ≡ is_front spec.now case.now }
+{
+    match case.target {
+        Target::Clause(clause) => clause_front(spec, case, clause),
+        Target::Locked(_) => true,
+    }
+}
+
+/// Whether a case that may be touched is; of a locked predicate, whether it opposes.
+#[tactic(auto, using(crate::proofs::Fronts::behind_front))]
+pub(crate) fn is_touched(spec: &Spec, case: &Case) -> bool
+    requires known { CaseKnown spec.now case.now }
+    requires front { is_front spec.now case.now ≡ true }
     ensures { result ≡ cases.is_touched_case spec.now case.now }
 {
     match case.target {
-        Target::Clause(clause) => clause_touched(spec, case, clause),
+        Target::Clause(clause) => clause_behind(spec, case, clause),
         Target::Locked(pred) => opposes(spec, case, pred),
     }
 }
