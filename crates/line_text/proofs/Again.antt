@@ -1,22 +1,20 @@
 -- What is read from tokens that can be spelt is read again from their text.
-use Rattle.std.proofs.Common.{◌≡◌, ◌≢◌, ℕ, ◌+◌, ◌<◌, ◌≤◌, ◌^◌, Bool, true, false, cond, not, ◌&&◌, ◌||◌, eqb, leb, ◌⊎◌, inl, inr, List, [], ◌∷◌, ◌++◌, length, refl, sym, ap, subst, ◌∙◌, arith, append_assoc}
-use Rattle.std.specs.Prelude.{Result, Ok, Option, Some, None, decimal, nat_le, nat_lt}
-use Rattle.std.specs.Str.{all_ascii_digits}
+use Rattle.std.proofs.Common.{◌≡◌, ◌≢◌, ℕ, ◌<◌, ◌≤◌, ◌^◌, Bool, true, false, cond, not, ◌&&◌, ◌||◌, eqb, leb, inl, inr, List, [], ◌∷◌, ◌++◌, length, refl, sym, ap, subst, ◌∙◌, arith, append_assoc}
+use Rattle.std.specs.Prelude.{Ok, Option, Some, None, decimal, nat_le, nat_lt}
 use Rattle.std.specs.List.{AllByRecursion, list_all, flat_map}
 use Rattle.std.proofs.lemmas.Bool.{eqb-true, leb-true, ltb-true, le-leb, ne_eqb}
 use Rattle.std.proofs.lemmas.List.Folds.{list_all-append}
 use Rattle.std.proofs.lemmas.Fmt.{digits_decimal}
-use Rattle.line_text.specs.declared.cause.Cause.{Cause}
-use Rattle.line_text.specs.declared.cause.Cause.TheVariants.{NotAscii, BadToken}
+use Rattle.line_text.specs.declared.cause.Cause.TheVariants.{BadToken}
 use Rattle.line_text.specs.declared.token.Token.{Token}
 use Rattle.line_text.specs.declared.token.Token.TheVariants.{Word, Number, Mark as Symbol, Arrow as Equals}
 use Rattle.line_text.specs.Reads.{◌>>=◌}
 use Rattle.line_text.specs.Bytes.{is_plain, all_plain, before_comment}
-use Rattle.line_text.specs.Lines.{lines_of, onto_first, begins_with}
+use Rattle.line_text.specs.Lines.{lines_of}
 use Rattle.line_text.specs.Tokens.{Piece, Run, Arrow, Mark, is_lower, is_upper, is_digit, is_word_byte, is_blank, onto_run, onto_mark, pieces, token_of_run, token_of_mark, tokens_in, tokens_of, number_token, are_small}
 use Rattle.line_text.specs.Causes.{caused}
 use Rattle.line_text.specs.Texts.{line_tokens}
-use Rattle.line_text.specs.Spelling.{Part, One, Gap, token_text, spell, tokens_in_parts, IsSpelt, is_apart, AreSpelt, all_word}
+use Rattle.line_text.specs.Spelling.{Part, One, Gap, token_text, spell, tokens_in_parts, IsSpelt, is_apart, all_word}
 use Rattle.line_text.proofs.Guards.{and_true, not_true, guard_ok, bind_ok, ok_same, caused_ok}
 use Rattle.line_text.proofs.Inverse.{bind_some, some_same, there, tested}
 use Rattle.line_text.proofs.Listing.{spelt_parts}
@@ -192,7 +190,7 @@ spell_neat [] h = refl
 spell_neat (One t ∷ ps) h = list_all-append neat (token_text t) (spell ps) ∙ rw (token_neat t h.0, spell_neat ps h.1) refl
 spell_neat (Gap ∷ ps) h = spell_neat ps h
 
-no_comment : (line : List ℕ) → list_all neat line ≡ true → before_comment line ≡ line
+pub no_comment : (line : List ℕ) → list_all neat line ≡ true → before_comment line ≡ line
 no_comment [] e = refl
 no_comment (b ∷ bs) e =
     let h = and_true (neat b) (list_all neat bs) e in
@@ -201,7 +199,7 @@ no_comment (b ∷ bs) e =
     let rest = no_comment bs h.1 in
     rw (none, rest) refl
 
-plain_line : (line : List ℕ) → list_all neat line ≡ true → all_plain line ≡ true
+pub plain_line : (line : List ℕ) → list_all neat line ≡ true → all_plain line ≡ true
 plain_line [] e = refl
 plain_line (b ∷ bs) e =
     let h = and_true (neat b) (list_all neat bs) e in

@@ -8,3 +8,4 @@ pub mod Inverse
 pub mod Runs
 pub mod Listing
 pub mod Again
+pub mod NextTokens

@@ -1,5 +1,5 @@
 -- Parts of a text one after the other, and lists in brackets.
-use Rattle.std.proofs.Common.{◌≡◌, ℕ, true, false, ◌&&◌, List, [], ◌∷◌, ◌++◌, refl, sym, ap, ◌∙◌, append_assoc}
+use Rattle.std.proofs.Common.{◌≡◌, ℕ, true, List, [], ◌∷◌, ◌++◌, refl, sym, ap, ◌∙◌, append_assoc}
 use Rattle.std.specs.List.{AllByRecursion}
 use Rattle.line_text.specs.declared.token.Token.{Token}
 use Rattle.line_text.specs.declared.token.Token.TheVariants.{Word, Number, Mark, Arrow}

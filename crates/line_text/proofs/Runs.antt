@@ -7,7 +7,7 @@ use Rattle.ind_base.specs.Numbers.{num_of}
 use Rattle.line_text.specs.declared.token.Token.{Token}
 use Rattle.line_text.specs.declared.token.Token.TheVariants.{Word, Number, Mark as Symbol, Arrow as Equals}
 use Rattle.line_text.specs.Reads.{◌>>=◌}
-use Rattle.line_text.specs.Tokens.{Piece, Run, Arrow, Mark, is_digit, is_lower, is_word, is_word_byte, is_blank, onto_run, onto_mark, pieces, token_of_run, token_of_mark, tokens_in, tokens_of, number_token}
+use Rattle.line_text.specs.Tokens.{Piece, Run, Arrow, Mark, is_digit, is_word, is_word_byte, is_blank, onto_mark, pieces, token_of_run, token_of_mark, tokens_in, tokens_of, number_token}
 use Rattle.line_text.specs.Words.{runs_in, runs_of, run_before, is_one_of, is_among}
 use Rattle.line_text.proofs.Inverse.{bind_some, some_same, same_bytes}
 

@@ -1,6 +1,6 @@
 -- What is spelt is read.
-use Rattle.std.proofs.Common.{◌≡◌, ◌≢◌, ℕ, zero, suc, ◌+◌, ◌^◌, ◌<◌, ◌≤◌, Bool, true, false, cond, ◌&&◌, ◌||◌, eqb, ◌⊎◌, inl, inr, List, [], ◌∷◌, ◌++◌, length, refl, sym, ap, ◌∙◌, arith, rules}
-use Rattle.std.specs.Prelude.{Option, Some, None, decimal}
+use Rattle.std.proofs.Common.{◌≡◌, ℕ, ◌^◌, ◌<◌, Bool, true, false, cond, ◌&&◌, ◌||◌, eqb, ◌⊎◌, inl, inr, List, [], ◌∷◌, ◌++◌, length, refl, ap, ◌∙◌, arith, rules}
+use Rattle.std.specs.Prelude.{Some, None, decimal}
 use Rattle.std.specs.Str.{all_ascii_digits}
 use Rattle.std.proofs.lemmas.Bool.{eqb-true}
 use Rattle.std.proofs.lemmas.Fmt.{digits_decimal, decimal_nonempty}
@@ -10,8 +10,7 @@ use Rattle.ind_base.proofs.Numerals.{num_of-decimal}
 use Rattle.line_text.specs.Tokens.{is_digit, is_lower, is_upper, number_token, is_word_byte, is_blank, Piece, Run, Arrow, Mark, onto_run, onto_mark, pieces, token_of_run, token_of_mark, tokens_in, tokens_of}
 use Rattle.line_text.specs.declared.token.Token.{Token}
 use Rattle.line_text.specs.declared.token.Token.TheVariants.{Word, Number, Mark as Symbol, Arrow as Equals}
-use Rattle.line_text.specs.Reads.{◌>>=◌}
-use Rattle.line_text.specs.Spelling.{Part, One, Gap, token_text, spell, tokens_in_parts, IsSpelt, begins_apart, is_apart, AreSpelt, all_word}
+use Rattle.line_text.specs.Spelling.{Part, One, Gap, spell, tokens_in_parts, begins_apart, is_apart, AreSpelt, all_word}
 use Rattle.line_text.proofs.Guards.{and_true}
 
 pub own : IsNumeralModel (λ ds. all_ascii_digits ds ≡ true) (value_after 0)
@@ -144,7 +143,7 @@ digits_word (d ∷ ds) e =
     let h = and_true (is_digit d) (all_ascii_digits ds) e in
     rw (digits_word ds h.1) (and_one (is_word_byte d) (third (is_lower d) (is_upper d) (is_digit d) (eqb d 95) h.0))
 
-token_digits : (ds : List ℕ) → all_ascii_digits ds ≡ true → 0 < length ds → token_of_run ds ≡ number_token (num_of ds)
+pub token_digits : (ds : List ℕ) → all_ascii_digits ds ≡ true → 0 < length ds → token_of_run ds ≡ number_token (num_of ds)
 token_digits [] e some = absurd (omega arith)
 token_digits (d ∷ ds) e some = rw ((and_true (is_digit d) (all_ascii_digits ds) e).0) refl
 

@@ -8,3 +8,4 @@ pub mod Forms
 pub mod Texts
 pub mod Writing
 pub mod Spelling
+pub mod Next

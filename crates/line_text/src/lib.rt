@@ -5,6 +5,7 @@ mod cause;
 mod forms;
 mod limits;
 mod lines;
+mod next;
 mod token;
 mod writing;
 
@@ -15,5 +16,6 @@ pub use forms::{
 };
 pub use limits::line_tokens;
 pub use lines::{all_plain, before_comment, split_line};
+pub use next::{is_line, mark_next, none_next, number_next, word_next};
 pub use token::{Token, is_word, next_run, same, tokens_of};
 pub use writing::{Written, put_list};

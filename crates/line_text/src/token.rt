@@ -11,7 +11,7 @@ use ind_base::{List, Text, read_num};
 use std::alloc::Global;
 
 /// The most bytes of a word.
-const WORD_LEN: usize = 32;
+pub(crate) const WORD_LEN: usize = 32;
 
 /// A token of a line.
 #[derive(Drop)]
@@ -43,25 +43,25 @@ pub fn is_word(expected: &[u8], token: &Token) -> bool
     }
 }
 
-fn is_lower(b: u8) -> bool
+pub(crate) fn is_lower(b: u8) -> bool
     ensures { result ≡ definitions.is_lower b }
 {
     b'a' <= b && b <= b'z'
 }
 
-fn is_digit(b: u8) -> bool
+pub(crate) fn is_digit(b: u8) -> bool
     ensures { result ≡ definitions.is_digit b }
 {
     b'0' <= b && b <= b'9'
 }
 
-fn is_word_byte(b: u8) -> bool
+pub(crate) fn is_word_byte(b: u8) -> bool
     ensures { result ≡ definitions.is_word_byte b }
 {
     is_lower(b) || (b'A' <= b && b <= b'Z') || is_digit(b) || b == b'_'
 }
 
-fn is_blank(b: u8) -> bool
+pub(crate) fn is_blank(b: u8) -> bool
     ensures { result ≡ definitions.is_blank b }
 {
     b == b' ' || b == b'\t'
@@ -108,7 +108,7 @@ fn starts_arrow(bytes: &[u8]) -> bool
 }
 
 /// How long the run of word bytes is that begins with the first byte.
-fn run_len(bytes: &[u8]) -> usize
+pub(crate) fn run_len(bytes: &[u8]) -> usize
     requires some { 0 < length bytes.now }
     requires word { definitions.is_word_byte (slice_index bytes.now 0) ≡ true }
     ensures within { (0 < result) × (result ≤ length bytes.now) }
