@@ -8,3 +8,4 @@ pub mod SaidAgain
 pub mod ReadingSpecs
 pub mod OpNames
 pub mod Twins
+pub mod Directories

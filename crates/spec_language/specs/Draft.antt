@@ -203,6 +203,12 @@ add_clause d clause count = record {
 abbrev pub var_sorts : List Var → List ℕ
 var_sorts vars = map (λ v. v.sort) vars
 
+-- all names of the literals are known, and then the literals fit
+abbrev pub check_literals : List Pred → List Var → List NamedLiteral → List NamedLiteral → Result (Unit {0}) Cause
+check_literals preds vars premise conclusion =
+    guard (list_all (is_literal_known preds vars) premise && list_all (is_literal_known preds vars) conclusion) UnknownName
+    >>= λ _. guard (list_all (literal_fits preds vars) premise && list_all (literal_fits preds vars) conclusion) WrongArguments
+
 -- the causes behind those of the variables
 unfoldable pub take_literals : SpecDraft → List Var → List NamedLiteral → List NamedLiteral → Bool → Result SpecDraft Cause
 take_literals d vars premise conclusion mask = do

@@ -6,3 +6,4 @@ pub mod Saying
 pub mod Again
 pub mod Reading
 pub mod Naming
+pub mod Directory

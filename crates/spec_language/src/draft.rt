@@ -9,6 +9,7 @@ ghost use Rattle.spec_language.specs.Names as names;
 ghost use Rattle.spec_language.specs.Bounds.{Bounds};
 
 use crate::at_start::{at_least, at_most, clause_starts, tuple_count};
+use crate::directory::directory;
 use crate::effect::{change_last, touch_last};
 use crate::literals::{are_literals_known, literals_fit, literals_of};
 use crate::named::{are_free, has_name, is_reserved, place_of};
@@ -75,6 +76,30 @@ fn is_taken(spec: &Spec, name: &[u8]) -> bool
         || has_name(spec.preds.as_slice(), name)
         || has_name(spec.nums.as_slice(), name)
         || has_name(spec.ops.as_slice(), name)
+}
+
+/// Whether all names of the literals are known, and then whether the literals fit.
+fn check_literals(
+    alloc: Global,
+    preds: &[Pred],
+    vars: &[Var],
+    premise: &[NamedLiteral],
+    conclusion: &[NamedLiteral],
+) -> Result<(), LineError>
+    requires { length preds.now ≤ 64 }
+    ensures { Gives (λ x. x) result (drafts.check_literals preds.now vars.now premise.now conclusion.now) }
+{
+    let by_name = directory(alloc, vars)?;
+    guard(
+        are_literals_known(preds, vars, &by_name, premise)
+            && are_literals_known(preds, vars, &by_name, conclusion),
+        Cause::UnknownName,
+    )?;
+    guard(
+        literals_fit(preds, vars, &by_name, premise)
+            && literals_fit(preds, vars, &by_name, conclusion),
+        Cause::WrongArguments,
+    )
 }
 
 #[tactic(auto, unfolding(crate::specs::Draft::is_op))]
@@ -226,15 +251,12 @@ impl SpecDraft {
         requires instances { self.old.instances ≤ 1000000 }
         ensures { Gives (λ _. self.new) result (drafts.take_literals self.old vars premise.now conclusion.now mask) }
     {
-        guard(
-            are_literals_known(self.spec.preds.as_slice(), vars.as_slice(), premise)
-                && are_literals_known(self.spec.preds.as_slice(), vars.as_slice(), conclusion),
-            Cause::UnknownName,
-        )?;
-        guard(
-            literals_fit(self.spec.preds.as_slice(), vars.as_slice(), premise)
-                && literals_fit(self.spec.preds.as_slice(), vars.as_slice(), conclusion),
-            Cause::WrongArguments,
+        check_literals(
+            alloc,
+            self.spec.preds.as_slice(),
+            vars.as_slice(),
+            premise,
+            conclusion,
         )?;
         guard(
             vars.len() <= 4
@@ -381,8 +403,9 @@ impl SpecDraft {
         )
     }
 
+    /// What a line `free` adds, or its first cause.
     #[tactic(auto, unfolding(crate::specs::Draft::take_free))]
-    fn take_free(&mut self, first: &[u8], second: &[u8]) -> Result<(), LineError>
+    pub fn take_free(&mut self, first: &[u8], second: &[u8]) -> Result<(), LineError>
         requires ops { length self.old.spec.ops ≤ 64 }
         ensures { Gives (λ _. self.new) result (drafts.take_free self.old first.now second.now) }
     {

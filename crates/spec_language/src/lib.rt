@@ -2,6 +2,7 @@
 #![tactic(auto)]
 
 mod at_start;
+mod directory;
 mod draft;
 mod effect;
 mod law;

@@ -5,7 +5,7 @@ ghost use Rattle.std.specs.List.{flat_map};
 ghost use Rattle.spec_language.specs.Again.{IsReadAgain};
 ghost use Rattle.spec_language.specs.Saying as sayings;
 
-use crate::saying::{say_clause, say_free, say_line, say_num, say_op, say_pred, say_sort};
+use crate::saying::{name_at, say_clause, say_line, say_num, say_op, say_pred, say_sort};
 use ind_base::{List, NoMemory};
 use spec_lines::{SpecLine, put_spec_line};
 use spec_model::{Clause, Line, Num, Op, Pair, Pred, Sort, Spec};
@@ -115,11 +115,23 @@ fn put_ops(
     Ok(())
 }
 
-fn put_frees(out: &mut List<u8>, alloc: Global, ops: &[Op], free: &[Pair]) -> Result<(), NoMemory>
+/// Appends the line of a free pair with its end.
+#[tactic(auto, unfolding(crate::specs::Saying::ended_text, crate::specs::Saying::say_free, crate::specs::Saying::op_name, spec_lines::specs::Texts::line_text))]
+fn put_free(out: &mut List<u8>, ops: &[Op], pair: Pair) -> Result<(), NoMemory>
+    ensures { OnOk result (out.new ≡ out.old ++ sayings.ended_text (sayings.say_free ops.now pair)) }
+{
+    out.extend(b"free ")?;
+    out.extend(name_at(ops, pair.a))?;
+    out.extend(b" ")?;
+    out.extend(name_at(ops, pair.b))?;
+    out.extend(b"\n")
+}
+
+fn put_frees(out: &mut List<u8>, ops: &[Op], free: &[Pair]) -> Result<(), NoMemory>
     ensures { OnOk result (out.new ≡ out.old ++ flat_map sayings.ended_text (map (sayings.say_free ops.now) free.now)) }
 {
     for x in free {
-        put_line(out, &say_free(alloc, ops, *x)?)?;
+        put_free(out, ops, *x)?;
     }
     Ok(())
 }
@@ -136,7 +148,7 @@ fn put_spec(out: &mut List<u8>, alloc: Global, spec: &Spec) -> Result<(), NoMemo
     put_nums(out, alloc, sorts, nums)?;
     put_clauses(out, alloc, sorts, preds, spec.clauses.as_slice())?;
     put_ops(out, alloc, sorts, preds, nums, ops)?;
-    put_frees(out, alloc, ops, spec.free.as_slice())
+    put_frees(out, ops, spec.free.as_slice())
 }
 
 /// The canonical text of a specification. Reading it gives the specification again.

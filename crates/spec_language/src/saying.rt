@@ -6,7 +6,7 @@ ghost use Rattle.spec_language.specs.Saying as sayings;
 use crate::named::Named;
 use ind_base::{List, NoMemory, Text};
 use spec_lines::{NamedLiteral, NamedParam, NamedTerm, NamedVar, SpecLine};
-use spec_model::{Clause, Line, Literal, Num, Op, Pair, Pred, Sort, Term, Var};
+use spec_model::{Clause, Line, Literal, Num, Op, Pred, Sort, Term, Var};
 use std::alloc::Global;
 
 /// The name of what stands at this place; empty behind the last one.
@@ -68,13 +68,6 @@ fn num_name(alloc: Global, nums: &[Num], place: u32) -> Result<Text, NoMemory>
     ensures { IfOk result (λ w. w ≡ sayings.num_name nums.now place) }
 {
     List::from_slice(alloc, name_at(nums, place))
-}
-
-#[tactic(auto, unfolding(crate::specs::Saying::op_name))]
-fn op_name(alloc: Global, ops: &[Op], place: u32) -> Result<Text, NoMemory>
-    ensures { IfOk result (λ w. w ≡ sayings.op_name ops.now place) }
-{
-    List::from_slice(alloc, name_at(ops, place))
 }
 
 #[tactic(auto, unfolding(crate::specs::Saying::say_sort))]
@@ -313,14 +306,4 @@ pub(crate) fn say_line(
             amount,
         } => say_change(alloc, nums, params, false, *num, places.as_slice(), *amount),
     }
-}
-
-#[tactic(auto, unfolding(crate::specs::Saying::say_free))]
-pub(crate) fn say_free(alloc: Global, ops: &[Op], pair: Pair) -> Result<SpecLine, NoMemory>
-    ensures { IfOk result (λ l. l ≡ sayings.say_free ops.now pair) }
-{
-    Ok(SpecLine::Free {
-        first: op_name(alloc, ops, pair.a)?,
-        second: op_name(alloc, ops, pair.b)?,
-    })
 }
