@@ -2,14 +2,13 @@
 use Rattle.std.proofs.Common.{◌≡◌, ℕ, Bool, true, false, cond, ◌||◌, List, [], ◌∷◌, ◌++◌, length, Bor, refl, sym, ap, ◌∙◌, arith}
 use Rattle.std.specs.Prelude.{Option, Some, None, is_some}
 use Rattle.std.specs.BTreeMap.{BTreeMap, get, Updates}
-use Rattle.std.specs.Ordering.{is_eq}
 use Rattle.std.specs.Str.{bytes_eq}
 use Rattle.std.proofs.lemmas.List.{append-nil, append_assoc}
 use Rattle.std.proofs.lemmas.Map.Text.{is_eq-slice_cmp}
 use Rattle.spec_model.specs.declared.clause.Var.{Var}
 use Rattle.spec_language.specs.declared.directory.Known.{Known}
 use Rattle.spec_language.specs.Names.{is_known}
-use Rattle.spec_language.specs.Draft.{is_var, sort_of_var, is_interval}
+use Rattle.spec_language.specs.Draft.{sort_of_var, is_interval}
 use Rattle.spec_language.specs.Directory.{found, by_bytes, IsDirectory}
 
 -- the map leads to the variables behind the first ones

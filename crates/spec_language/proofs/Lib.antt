@@ -9,3 +9,4 @@ pub mod ReadingSpecs
 pub mod OpNames
 pub mod Twins
 pub mod Directories
+pub mod Placed

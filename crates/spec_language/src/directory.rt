@@ -19,10 +19,7 @@ pub(crate) struct Known {
 }
 
 /// What each name stands for: the first variable that has it.
-pub(crate) fn directory(
-    alloc: Global,
-    vars: &[Var],
-) -> Result<BTreeMap<&[u8], Known>, NoMemory>
+pub(crate) fn directory(alloc: Global, vars: &[Var]) -> Result<BTreeMap<&[u8], Known>, NoMemory>
     ensures { IfOk result (λ m. IsDirectory m vars.now) }
 {
     let mut by_name = BTreeMap::new(alloc);
@@ -89,7 +86,11 @@ fn is_plain_in<'a>(
 }
 
 /// Whether all of them are names of variables.
-pub(crate) fn are_in<'a>(vars: &[Var], by_name: &BTreeMap<&'a [u8], Known>, names: &'a [Text]) -> bool
+pub(crate) fn are_in<'a>(
+    vars: &[Var],
+    by_name: &BTreeMap<&'a [u8], Known>,
+    names: &'a [Text],
+) -> bool
     requires { IsDirectory by_name.now vars.now }
     ensures { result ≡ list_all (drafts.is_var vars.now) names.now }
 {

@@ -12,7 +12,7 @@ use crate::at_start::{at_least, at_most, clause_starts, tuple_count};
 use crate::directory::directory;
 use crate::effect::{change_last, touch_last};
 use crate::literals::{are_literals_known, literals_fit, literals_of};
-use crate::named::{are_free, has_name, is_reserved, place_of};
+use crate::named::{are_free, has_name, is_placed, is_reserved, place_of};
 use crate::places::{
     are_params_known, are_sorts, are_vars_known, intervals_among, params_of, sort_places, vars_of,
 };
@@ -102,11 +102,12 @@ fn check_literals(
     )
 }
 
-#[tactic(auto, unfolding(crate::specs::Draft::is_op))]
-fn is_op(ops: &[Op], name: &[u8]) -> bool
+#[tactic(auto, unfolding(crate::specs::Draft::is_op, crate::specs::Draft::op_place))]
+fn is_op(ops: &[Op], name: &[u8], place: u32) -> bool
+    requires { place ≡ drafts.op_place ops.now name.now }
     ensures { result ≡ drafts.is_op ops.now name.now }
 {
-    has_name(ops, name)
+    is_placed(ops, name, place)
 }
 
 #[tactic(auto, unfolding(crate::specs::Draft::op_place))]
@@ -410,14 +411,13 @@ impl SpecDraft {
         ensures { Gives (λ _. self.new) result (drafts.take_free self.old first.now second.now) }
     {
         guard(self.rank <= 6, Cause::OutOfPlace)?;
+        let a = op_place(self.spec.ops.as_slice(), first);
+        let b = op_place(self.spec.ops.as_slice(), second);
         guard(
-            is_op(self.spec.ops.as_slice(), first) && is_op(self.spec.ops.as_slice(), second),
+            is_op(self.spec.ops.as_slice(), first, a) && is_op(self.spec.ops.as_slice(), second, b),
             Cause::UnknownName,
         )?;
-        self.spec.free.push(Pair {
-            a: op_place(self.spec.ops.as_slice(), first),
-            b: op_place(self.spec.ops.as_slice(), second),
-        })?;
+        self.spec.free.push(Pair { a, b })?;
         self.rank = 6;
         Ok(())
     }

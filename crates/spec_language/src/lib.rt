@@ -17,7 +17,7 @@ pub use at_start::size_at;
 pub use draft::SpecDraft;
 pub use law::{ops_are_named, said_again};
 pub use line_text::{Cause, LineError, ParseError};
-pub use named::{Named, has_name, is_reserved, place_of};
+pub use named::{Named, has_name, is_placed, is_reserved, place_of};
 pub use printing::print_spec;
 pub use reading::parse_spec;
 pub use saying::name_at;

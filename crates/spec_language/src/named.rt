@@ -163,6 +163,15 @@ pub fn place_of<T: Named>(items: &[T], name: &[u8]) -> u32
     items.len() as u32
 }
 
+/// Whether the place that was found for a name is that of one of them.
+pub fn is_placed<T: Named>(items: &[T], name: &[u8], place: u32) -> bool
+    requires { place ≡ names.place_in T.name_of items.now name.now }
+    ensures { result ≡ names.is_known T.name_of items.now name.now }
+{
+    let _name = name;
+    (place as usize) < items.len()
+}
+
 /// Whether no name is reserved and none stands twice. The names behind a place stand in a set, since
 /// a line may have very many.
 pub(crate) fn are_free<T: Named>(alloc: Global, items: &[T]) -> Result<bool, NoMemory>

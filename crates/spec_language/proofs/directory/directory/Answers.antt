@@ -1,4 +1,4 @@
-use Rattle.std.proofs.Common.{arith, refl, sym}
+use Rattle.std.proofs.Common.{arith}
 use Rattle.spec_language.proofs.Directories.{leads_none, leads_more, leads_all}
 use Rattle.spec_language.proofs.directory.directory.Goals as goal
 
