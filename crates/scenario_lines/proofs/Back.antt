@@ -4,7 +4,7 @@ use Rattle.std.specs.Prelude.{Option, Some, None, Result, Ok, codes}
 use Rattle.std.specs.Str.{bytes_eq}
 use Rattle.line_text.specs.declared.cause.Cause.{Cause}
 use Rattle.line_text.specs.declared.token.Token.{Token}
-use Rattle.line_text.specs.declared.token.Token.TheVariants.{Word, Number, Mark}
+use Rattle.line_text.specs.declared.token.Token.TheVariants.{Word, Number}
 use Rattle.line_text.specs.Reads.{◌>>=◌}
 use Rattle.line_text.specs.Forms.{after_mark, after_word, word_at, number_at, ended, list_at}
 use Rattle.line_text.proofs.Inverse.{bind_some, some_same, same_bytes, word_read, number_read, this_word_read, ended_read, word_then, number_then, mark_then, list_last}

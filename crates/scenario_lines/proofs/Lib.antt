@@ -1,3 +1,4 @@
 pub mod Shapes
 pub mod Back
 pub mod Spoken
+pub mod InPlaces

@@ -1,11 +1,12 @@
 -- The tokens of each line of a run, and how they are written.
-use Rattle.std.proofs.Common.{◌≡◌, ℕ, true, List, [], ◌∷◌, ◌++◌, refl, sym, ap, ◌∙◌, append_assoc, append-nil}
+use Rattle.std.proofs.Common.{◌≡◌, ℕ, true, List, [], ◌∷◌, ◌++◌, refl, ap, ◌∙◌, append_assoc, append-nil}
 use Rattle.std.specs.Prelude.{codes, decimal}
 use Rattle.line_text.specs.declared.token.Token.{Token}
 use Rattle.line_text.specs.declared.token.Token.TheVariants.{Word, Number, Mark}
 use Rattle.line_text.specs.Spelling.{Part, One, Gap, spell, tokens_in_parts, begins_apart, is_apart}
 use Rattle.line_text.proofs.Inverse.{listing_tokens}
 use Rattle.line_text.proofs.Listing.{listing_parts, listing_spelt, listing_read, listing_apart}
+pub use Rattle.scenario_lines.specs.InPlace.{arg_tokens}
 use Rattle.scenario_lines.specs.declared.argument.NamedArg.{NamedArg}
 use Rattle.scenario_lines.specs.declared.argument.NamedArg.TheVariants as args
 use Rattle.scenario_lines.specs.declared.line.RunLine.{RunLine}
@@ -13,10 +14,6 @@ use Rattle.scenario_lines.specs.declared.line.RunLine.TheVariants as lines
 use Rattle.scenario_lines.specs.Texts as texts
 
 -- ---- tokens
-
-abbrev pub arg_tokens : NamedArg → List Token
-arg_tokens (args.One n) = Number n ∷ []
-arg_tokens (args.Span lo hi) = Number lo ∷ Mark 45 ∷ Number hi ∷ []
 
 -- the tokens of a line
 abbrev pub tokens_of_line : RunLine → List Token

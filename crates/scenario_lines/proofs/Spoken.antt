@@ -6,7 +6,6 @@ use Rattle.line_text.specs.declared.token.Token.{Token}
 use Rattle.line_text.specs.declared.token.Token.TheVariants.{Word}
 use Rattle.line_text.specs.Spelling.{IsSpelt, spell}
 use Rattle.line_text.specs.Texts.{line_tokens}
-use Rattle.line_text.specs.Tokens.{are_small}
 use Rattle.line_text.proofs.Again.{TextRead, line_read, text_read}
 use Rattle.scenario_lines.specs.declared.line.RunLine.{RunLine}
 use Rattle.scenario_lines.specs.Forms.{run_line}

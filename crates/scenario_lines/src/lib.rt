@@ -3,10 +3,12 @@
 
 mod argument;
 mod forms;
+mod in_place;
 mod line;
 mod printing;
 
 pub use argument::NamedArg;
 pub use forms::run_line_of;
+pub use in_place::{do_in_place, send_in_place, take_in_place};
 pub use line::RunLine;
-pub use printing::put_run_line;
+pub use printing::{put_request, put_run_line};

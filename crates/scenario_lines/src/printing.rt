@@ -58,8 +58,8 @@ fn put_stop(
     put_num(out, fill)
 }
 
-/// Appends a word, a number, and a name with arguments.
-fn put_request(
+/// Appends a word with its space, a number, and a name with arguments.
+pub fn put_request(
     out: &mut List<u8>,
     word: &[u8],
     n: u64,
