@@ -1,44 +1,23 @@
 -- What an instance needs on the literals of marked clauses, literal by literal and clause by clause.
-use Rattle.std.proofs.Common.{◌≡◌, ℕ, zero, suc, ◌+◌, ◌<◌, ◌≤◌, Bool, true, false, not, ◌||◌, if◌then◌else◌, List, [], ◌∷◌, ◌++◌, map, length, get_or, drop, is_some, refl, sym, ap, ◌∙◌, subst, add-one, append_assoc, arith, Option, Some, None}
+use Rattle.std.proofs.Common.{◌≡◌, ℕ, zero, suc, ◌+◌, ◌<◌, ◌≤◌, Bool, true, false, not, ◌||◌, if◌then◌else◌, List, [], ◌∷◌, ◌++◌, map, length, get_or, drop, refl, sym, ap, ◌∙◌, subst, add-one, append_assoc, arith, Option, Some, None}
 use Rattle.std.specs.List.{list_any, slice_get, AllByRecursion, flat_map}
-use Rattle.std.specs.Option.{option_map_or}
-use mathlib.Core.Bool.{beq}
 use Rattle.std.proofs.lemmas.List.{append-nil, drop_more, drop_all}
 use Rattle.std.proofs.lemmas.List.Concat.{flat_map-cons}
 use Rattle.std.proofs.lemmas.Option.{slice_get_within, get_or_from_slice_get}
 use Rattle.spec_model.specs.declared.clause.Clause.{Clause}
 use Rattle.spec_model.specs.declared.clause.Literal.{Literal}
-use Rattle.spec_model.specs.declared.clause.Literal.TheVariants.{Atom, Equal}
 use Rattle.spec_model.specs.declared.instance.Inst.{Inst}
 use Rattle.spec_model.specs.declared.operation.Line.{Line}
 use Rattle.spec_model.specs.declared.spec.Spec.{Spec}
-use Rattle.spec_model.specs.Breaks.{literal_set}
 use Rattle.spec_model.specs.Fits.{marked_from}
-use Rattle.spec_model.specs.Masks.{falsifies, is_falsified, is_given, places_from, atom_falsified}
-use Rattle.spec_model.specs.Truths.{Truths, Signed, signed, literals, op_at, inst_sets, values}
+use Rattle.spec_model.specs.Masks.{falsifies, is_given, places_from}
+use Rattle.spec_model.specs.Truths.{Truths, Signed, signed, literals, op_at}
 use Rattle.effect_model.specs.declared.masking.Wanted.{Wanted}
 use Rattle.effect_model.specs.Masking.{wanted_needs, wanted_parts}
 use Rattle.effect_model.specs.Pruning.{clause_may}
-use Rattle.effect_model.proofs.Pruned.{clause_unset}
+use Rattle.effect_model.proofs.Pruned.{none_falsified}
 
--- ---- where no line may set an atom of the clause, nothing is needed
-
-unfalsified : (spec : Spec) (inst : Inst) (xs : List ℕ) (sign : Bool) (l : Literal) → literal_set spec inst xs l ≡ false → atom_falsified spec inst xs sign l ≡ false
-unfalsified spec inst xs sign (Equal l r) e = refl
-unfalsified spec inst xs sign (Atom p vars) e = by_value (inst_sets spec inst p (values xs vars)) e
-  where
-    by_value : (o : Option Bool) → is_some o ≡ false → option_map_or (λ v. not (beq v sign)) o false ≡ false
-    by_value None e = refl
-    by_value (Some v) e = absurd cc
-
-neither : (a b c d : Bool) → (a ≡ false → c ≡ false) → (b ≡ false → d ≡ false) → (a || b) ≡ false → (c || d) ≡ false
-neither true b c d f g e = absurd cc
-neither false b c d f g e = ap (λ x. x || d) (f refl) ∙ g e
-
-none_falsified : (spec : Spec) (inst : Inst) (xs : List ℕ) (ls : List Signed) → list_any (λ (l : Signed). literal_set spec inst xs l.literal) ls ≡ false → list_any (is_falsified spec inst xs) ls ≡ false
-none_falsified spec inst xs [] e = refl
-none_falsified spec inst xs (l ∷ ls) e =
-    neither (literal_set spec inst xs l.literal) (list_any (λ (k : Signed). literal_set spec inst xs k.literal) ls) (is_falsified spec inst xs l) (list_any (is_falsified spec inst xs) ls) (unfalsified spec inst xs l.sign l.literal) (none_falsified spec inst xs ls) e
+-- ---- where no line may make a literal of the clause false, nothing is needed
 
 nothing_then : {X : Type 0} (a : Bool) (x y : X) → (if a || true then x else y) ≡ x
 nothing_then true x y = refl
@@ -51,8 +30,7 @@ unneeded wanted spec inst s i c xs none =
 
 pub nothing_wanted : (wanted : Wanted) (spec : Spec) (inst : Inst) (s : Truths) (i : ℕ) (c : Clause) (front behind : List ℕ) (lines : List Line) → lines ≡ (op_at spec inst.op).lines → clause_may inst lines front c ≡ false → wanted_needs wanted spec inst s i c (front ++ behind) ≡ []
 nothing_wanted wanted spec inst s i c front behind lines is e =
-    let unset = clause_unset spec inst c front behind (sym (ap (λ (ls : List Line). clause_may inst ls front c) is) ∙ e) in
-    unneeded wanted spec inst s i c (front ++ behind) (none_falsified spec inst (front ++ behind) (literals c) unset)
+    unneeded wanted spec inst s i c (front ++ behind) (none_falsified spec inst c front behind (sym (ap (λ (ls : List Line). clause_may inst ls front c) is) ∙ e))
 
 -- where equalities make the instance true
 pub given_unneeded : (wanted : Wanted) (spec : Spec) (inst : Inst) (s : Truths) (i : ℕ) (c : Clause) (xs : List ℕ) → is_given xs c ≡ true → wanted_needs wanted spec inst s i c xs ≡ []

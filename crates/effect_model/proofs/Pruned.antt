@@ -1,4 +1,4 @@
--- The first broken instance is looked for only where an effect may set an atom of the clause.
+-- Broken instances are looked for only where an effect may make a literal of the clause false.
 use Rattle.std.proofs.Common.{◌≡◌, ◌⊎◌, inl, inr, ℕ, zero, suc, ◌+◌, ◌-◌, ◌<◌, ◌≤◌, max, subst, take, Bool, true, false, not, ◌&&◌, ◌||◌, List, [], ◌∷◌, ◌++◌, map, drop, length, get_or, is_some, if◌then◌else◌, refl, sym, ap, ◌∙◌, arith, Option, Some, None}
 use Rattle.std.specs.List.{list_any, find, slice_get}
 use Rattle.std.specs.Option.{option_map_or}
@@ -7,6 +7,7 @@ use Rattle.std.proofs.lemmas.Bool.{cases_lt}
 use Rattle.std.proofs.Math.Nat.{max-eq_left, max-eq_right}
 use Rattle.std.proofs.lemmas.List.Folds.{list_any-append}
 use Rattle.std.specs.Prelude.{◌==◌}
+use mathlib.Core.Bool.{beq}
 use Rattle.std.proofs.lemmas.Option.{slice_get_within, get_or_from_slice_get}
 use Rattle.spec_model.specs.declared.clause.Clause.{Clause}
 use Rattle.spec_model.specs.declared.clause.Literal.{Literal}
@@ -16,8 +17,9 @@ use Rattle.spec_model.specs.declared.operation.Line.{Line}
 use Rattle.spec_model.specs.declared.operation.Line.TheVariants.{Set, Clear, Add, Sub}
 use Rattle.spec_model.specs.declared.spec.Spec.{Spec}
 use Rattle.spec_model.specs.declared.operation.Term.{Term}
-use Rattle.spec_model.specs.Truths.{Truths, terms_touch, term_has, line_sets, lines_set, inst_has, op_at, values, Signed, signed, literals, instance_true}
+use Rattle.spec_model.specs.Truths.{Truths, terms_touch, term_has, line_sets, lines_set, or_else, inst_has, inst_sets, op_at, values, Signed, signed, signed_true, literal_true, literals}
 use Rattle.spec_model.specs.Breaks.{literal_set, breaks_at, laid_over}
+use Rattle.spec_model.specs.Masks.{atom_falsified, is_falsified, falsifies}
 use Rattle.spec_model.specs.Universe.{tuples}
 use Rattle.effect_model.specs.Pruning.{term_may, terms_may, line_may, literal_may, clause_may, tuples_behind}
 
@@ -38,7 +40,7 @@ any_sides p c =
     list_any-append p (map (signed false) c.premise) (map (signed true) c.conclusion)
     ∙ ap (λ b. b || list_any p (map (signed true) c.conclusion)) (any_mapped p (signed false) c.premise) ∙ ap (λ b. list_any (λ l. p (signed false l)) c.premise || b) (any_mapped p (signed true) c.conclusion)
 
--- ---- where no line may set an atom of the clause
+-- ---- where no line may make a literal of the clause false
 
 both_fail : (a b c d : Bool) → (a ≡ false → c ≡ false) → (b ≡ false → d ≡ false) → (a && b) ≡ false → (c && d) ≡ false
 both_fail false b c d f g e = ap (λ x. x && d) (f refl)
@@ -70,43 +72,85 @@ terms_miss has front xs (t ∷ terms) [] e = refl
 terms_miss has front xs (t ∷ terms) (v ∷ vars) e =
     both_fail (term_may has front t v) (terms_may has front terms vars) (term_has has t (get_or (front ++ xs) v 0)) (terms_touch has terms (values (front ++ xs) vars)) (term_misses has front xs t v) (terms_miss has front xs terms vars) e
 
-not_then : (b : Bool) (x y : Option Bool) → b ≡ false → (if b then x else y) ≡ y
-not_then true x y e = absurd cc
-not_then false x y e = refl
+-- the effect doesn't give the atom the truth that makes a literal of this sign false
+abbrev Agrees : Bool → Option Bool → Type 0
+Agrees sign o = option_map_or (λ v. not (beq v sign)) o false ≡ false
 
-line_misses : (inst : Inst) (front xs : List ℕ) (p : ℕ) (vars : List ℕ) (line : Line) → line_may inst front p vars line ≡ false → line_sets (inst_has inst) p (values (front ++ xs) vars) line ≡ None
-line_misses inst front xs p vars (Set q terms) e = not_then _ (Some true) None (both_fail (p == q) (terms_may (inst_has inst) front terms vars) (p == q) (terms_touch (inst_has inst) terms (values (front ++ xs) vars)) (λ f. f) (terms_miss (inst_has inst) front xs terms vars) e)
-line_misses inst front xs p vars (Clear q terms) e = not_then _ (Some false) None (both_fail (p == q) (terms_may (inst_has inst) front terms vars) (p == q) (terms_touch (inst_has inst) terms (values (front ++ xs) vars)) (λ f. f) (terms_miss (inst_has inst) front xs terms vars) e)
-line_misses inst front xs p vars (Add n params amount) e = refl
-line_misses inst front xs p vars (Sub n params amount) e = refl
+kept_agrees : (sign b : Bool) → Agrees sign (if b then Some sign else None)
+kept_agrees true true = refl
+kept_agrees false true = refl
+kept_agrees true false = refl
+kept_agrees false false = refl
 
-lines_miss : (inst : Inst) (front xs : List ℕ) (p : ℕ) (vars : List ℕ) (lines : List Line) → list_any (line_may inst front p vars) lines ≡ false → lines_set (inst_has inst) lines p (values (front ++ xs) vars) ≡ None
-lines_miss inst front xs p vars [] e = refl
-lines_miss inst front xs p vars (l ∷ lines) e =
-    let here = line_misses inst front xs p vars l (either_left (line_may inst front p vars l) (list_any (line_may inst front p vars) lines) e) in
-    let rest = lines_miss inst front xs p vars lines (either_right (line_may inst front p vars l) (list_any (line_may inst front p vars) lines) e) in
-    rw (rest, here) refl
+untouched_agrees : (sign v b : Bool) → b ≡ false → Agrees sign (if b then Some v else None)
+untouched_agrees sign v true e = absurd cc
+untouched_agrees sign v false e = refl
 
-literal_misses : (spec : Spec) (inst : Inst) (front xs : List ℕ) (l : Literal) → literal_may inst (op_at spec inst.op).lines front l ≡ false → literal_set spec inst (front ++ xs) l ≡ false
-literal_misses spec inst front xs (Atom p vars) e = ap is_some (lines_miss inst front xs p vars (op_at spec inst.op).lines e)
-literal_misses spec inst front xs (Equal l r) e = refl
+later_agrees : (sign : Bool) (a b : Option Bool) → Agrees sign a → Agrees sign b → Agrees sign (or_else a b)
+later_agrees sign None b f g = g
+later_agrees sign (Some v) b f g = f
 
-literals_miss : (spec : Spec) (inst : Inst) (front xs : List ℕ) (ls : List Literal) → list_any (literal_may inst (op_at spec inst.op).lines front) ls ≡ false → list_any (literal_set spec inst (front ++ xs)) ls ≡ false
-literals_miss spec inst front xs [] e = refl
-literals_miss spec inst front xs (l ∷ ls) e =
-    let here = literal_misses spec inst front xs l (either_left (literal_may inst (op_at spec inst.op).lines front l) (list_any (literal_may inst (op_at spec inst.op).lines front) ls) e) in
-    let rest = literals_miss spec inst front xs ls (either_right (literal_may inst (op_at spec inst.op).lines front l) (list_any (literal_may inst (op_at spec inst.op).lines front) ls) e) in
-    rw (here, rest) refl
+line_agrees : (inst : Inst) (front xs : List ℕ) (sign : Bool) (p : ℕ) (vars : List ℕ) (line : Line) → line_may inst front sign p vars line ≡ false → Agrees sign (line_sets (inst_has inst) p (values (front ++ xs) vars) line)
+line_agrees inst front xs true p vars (Set q terms) e = kept_agrees true (p == q && terms_touch (inst_has inst) terms (values (front ++ xs) vars))
+line_agrees inst front xs false p vars (Set q terms) e = untouched_agrees false true _ (both_fail (p == q) (terms_may (inst_has inst) front terms vars) (p == q) (terms_touch (inst_has inst) terms (values (front ++ xs) vars)) (λ f. f) (terms_miss (inst_has inst) front xs terms vars) e)
+line_agrees inst front xs true p vars (Clear q terms) e = untouched_agrees true false _ (both_fail (p == q) (terms_may (inst_has inst) front terms vars) (p == q) (terms_touch (inst_has inst) terms (values (front ++ xs) vars)) (λ f. f) (terms_miss (inst_has inst) front xs terms vars) e)
+line_agrees inst front xs false p vars (Clear q terms) e = kept_agrees false (p == q && terms_touch (inst_has inst) terms (values (front ++ xs) vars))
+line_agrees inst front xs sign p vars (Add n params amount) e = refl
+line_agrees inst front xs sign p vars (Sub n params amount) e = refl
 
-pub clause_unset : (spec : Spec) (inst : Inst) (c : Clause) (front xs : List ℕ) → clause_may inst (op_at spec inst.op).lines front c ≡ false → list_any (λ l. literal_set spec inst (front ++ xs) l.literal) (literals c) ≡ false
-clause_unset spec inst c front xs e =
+lines_agree : (inst : Inst) (front xs : List ℕ) (sign : Bool) (p : ℕ) (vars : List ℕ) (lines : List Line) → list_any (line_may inst front sign p vars) lines ≡ false → Agrees sign (lines_set (inst_has inst) lines p (values (front ++ xs) vars))
+lines_agree inst front xs sign p vars [] e = refl
+lines_agree inst front xs sign p vars (l ∷ lines) e =
+    let may = line_may inst front sign p vars in
+    later_agrees sign (lines_set (inst_has inst) lines p (values (front ++ xs) vars)) (line_sets (inst_has inst) p (values (front ++ xs) vars) l)
+    (lines_agree inst front xs sign p vars lines (either_right (may l) (list_any may lines) e)) (line_agrees inst front xs sign p vars l (either_left (may l) (list_any may lines) e))
+
+literal_agrees : (spec : Spec) (inst : Inst) (front xs : List ℕ) (sign : Bool) (l : Literal) → literal_may inst (op_at spec inst.op).lines front sign l ≡ false → atom_falsified spec inst (front ++ xs) sign l ≡ false
+literal_agrees spec inst front xs sign (Atom p vars) e = lines_agree inst front xs sign p vars (op_at spec inst.op).lines e
+literal_agrees spec inst front xs sign (Equal l r) e = refl
+
+neither : (a b c d : Bool) → (a ≡ false → c ≡ false) → (b ≡ false → d ≡ false) → (a || b) ≡ false → (c || d) ≡ false
+neither true b c d f g e = absurd cc
+neither false b c d f g e = ap (λ x. x || d) (f refl) ∙ g e
+
+literals_agree : (spec : Spec) (inst : Inst) (front xs : List ℕ) (sign : Bool) (ls : List Literal) → list_any (literal_may inst (op_at spec inst.op).lines front sign) ls ≡ false → list_any (atom_falsified spec inst (front ++ xs) sign) ls ≡ false
+literals_agree spec inst front xs sign [] e = refl
+literals_agree spec inst front xs sign (l ∷ ls) e =
+    let may = literal_may inst (op_at spec inst.op).lines front sign in
+    neither (may l) (list_any may ls) (atom_falsified spec inst (front ++ xs) sign l) (list_any (atom_falsified spec inst (front ++ xs) sign) ls) (literal_agrees spec inst front xs sign l) (literals_agree spec inst front xs sign ls) e
+
+pub none_falsified : (spec : Spec) (inst : Inst) (c : Clause) (front xs : List ℕ) → clause_may inst (op_at spec inst.op).lines front c ≡ false → falsifies spec inst (front ++ xs) c ≡ false
+none_falsified spec inst c front xs e =
     let may = literal_may inst (op_at spec inst.op).lines front in
-    let premise = literals_miss spec inst front xs c.premise (either_left (list_any may c.premise) (list_any may c.conclusion) e) in
-    let conclusion = literals_miss spec inst front xs c.conclusion (either_right (list_any may c.premise) (list_any may c.conclusion) e) in
-    any_sides (λ l. literal_set spec inst (front ++ xs) l.literal) c ∙ rw (premise, conclusion) refl
+    any_sides (is_falsified spec inst (front ++ xs)) c
+    ∙ neither (list_any (may false) c.premise) (list_any (may true) c.conclusion) (list_any (atom_falsified spec inst (front ++ xs) false) c.premise) (list_any (atom_falsified spec inst (front ++ xs) true) c.conclusion)
+    (literals_agree spec inst front xs false c.premise) (literals_agree spec inst front xs true c.conclusion) e
+
+-- what the effect sets without making a literal false is true
+set_true : (spec : Spec) (inst : Inst) (s : Truths) (xs : List ℕ) (sign : Bool) (l : Literal) → atom_falsified spec inst xs sign l ≡ false → (literal_set spec inst xs l && not (literal_true (laid_over spec inst s) xs sign l)) ≡ false
+set_true spec inst s xs sign (Equal l r) e = refl
+set_true spec inst s xs sign (Atom p vars) e = by_value (inst_sets spec inst p (values xs vars)) e
+  where
+    by_value : (o : Option Bool) → Agrees sign o → (is_some o && not (beq (option_map_or (λ v. v) o (s p (values xs vars))) sign)) ≡ false
+    by_value None e = refl
+    by_value (Some v) e = e
+
+both_true : (a b c d : Bool) → (a && not b) ≡ false → (c && not d) ≡ false → ((a || c) && not (b || d)) ≡ false
+both_true true true c d e f = refl
+both_true true false c d e f = absurd cc
+both_true false true true d e f = refl
+both_true false true false d e f = refl
+both_true false false c d e f = f
+
+all_true : (spec : Spec) (inst : Inst) (s : Truths) (xs : List ℕ) (ls : List Signed) → list_any (is_falsified spec inst xs) ls ≡ false → (list_any (λ (l : Signed). literal_set spec inst xs l.literal) ls && not (list_any (signed_true (laid_over spec inst s) xs) ls)) ≡ false
+all_true spec inst s xs [] e = refl
+all_true spec inst s xs (l ∷ ls) e =
+    let falsified = is_falsified spec inst xs in
+    both_true (literal_set spec inst xs l.literal) (signed_true (laid_over spec inst s) xs l) (list_any (λ (k : Signed). literal_set spec inst xs k.literal) ls) (list_any (signed_true (laid_over spec inst s) xs) ls)
+    (set_true spec inst s xs l.sign l.literal (either_left (falsified l) (list_any falsified ls) e)) (all_true spec inst s xs ls (either_right (falsified l) (list_any falsified ls) e))
 
 clause_misses : (spec : Spec) (inst : Inst) (s : Truths) (c : Clause) (front xs : List ℕ) → clause_may inst (op_at spec inst.op).lines front c ≡ false → breaks_at spec inst s c (front ++ xs) ≡ false
-clause_misses spec inst s c front xs e = ap (λ b. b && not (instance_true (laid_over spec inst s) (front ++ xs) c)) (clause_unset spec inst c front xs e)
+clause_misses spec inst s c front xs e = all_true spec inst s (front ++ xs) (literals c) (none_falsified spec inst c front xs e)
 
 find_none : (p : List ℕ → Bool) (f : List ℕ → List ℕ) (ts : List (List ℕ)) → ((xs : List ℕ) → p (f xs) ≡ false) → find p (map f ts) ≡ None
 find_none p f [] none = refl

@@ -76,7 +76,7 @@ none_to p front others from to le none before =
     let g = gap from to le in
     subst (λ n. find p (tuples_upto front others n) ≡ None) (sym g.1) (none_over p front others from g.0 (λ x ge lt. none x ge (omega (arith, lt, g.1))) before)
 
--- none where no line may set an atom of the clause
+-- none where no line may make a literal of the clause false
 pub none_until : (spec : Spec) (inst : Inst) (s : Truths) (c : Clause) (front others : List ℕ) (lines : List Line) (from next to : ℕ) → lines ≡ (op_at spec inst.op).lines → ((x : ℕ) → from ≤ x → x < next → clause_may inst lines (front ++ x ∷ []) c ≡ false) → from ≤ to → to ≤ next
     → find (breaks_at spec inst s c) (tuples_upto front others from) ≡ None → find (breaks_at spec inst s c) (tuples_upto front others to) ≡ None
 none_until spec inst s c front others lines from next to are unset le past before =

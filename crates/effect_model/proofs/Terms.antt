@@ -1,11 +1,13 @@
 -- What terms touch, and the first elements of what they touch.
 use Rattle.std.proofs.Common.{◌≡◌, ℕ, zero, suc, ◌<◌, Bool, false, ◌&&◌, leb, List, [], ◌∷◌, drop, length, get_or, refl, sym, ap, ◌∙◌, arith, None}
 use Rattle.std.specs.List.{slice_get}
+use Rattle.std.specs.Str.{bytes_eq}
 use Rattle.std.proofs.Math.Dec.{leb-suc-zero}
 use Rattle.std.proofs.Math.Bool.{and-false}
 use Rattle.ind_base.specs.declared.span.Span.{Span}
 use Rattle.spec_model.specs.declared.operation.Term.{Term}
 use Rattle.spec_model.specs.Truths.{terms_touch, span_has, no_span}
+use Rattle.spec_model.specs.Changes.{elements_at}
 use Rattle.effect_model.specs.Touching.{terms_begin, begins_with}
 
 -- nothing lies in an argument that isn't there
@@ -27,6 +29,13 @@ short_elements has [] i xs lt few = absurd (omega arith)
 short_elements has (t ∷ terms) zero [] lt few = refl
 short_elements has (t ∷ terms) zero (x ∷ xs) lt few = absurd (omega arith)
 short_elements has (t ∷ terms) (suc i) xs lt few = short_elements has terms i xs (omega arith) few
+
+-- too few elements for the parameters
+pub short_places : (args : List Span) (places : List ℕ) (i : ℕ) (xs : List ℕ) → i < length places → length xs < 1 → false ≡ bytes_eq (elements_at args (drop i places)) xs
+short_places args [] i xs lt few = absurd (omega arith)
+short_places args (p ∷ places) zero [] lt few = refl
+short_places args (p ∷ places) zero (x ∷ xs) lt few = absurd (omega arith)
+short_places args (p ∷ places) (suc i) xs lt few = short_places args places i xs (omega arith) few
 
 pub short_terms : (has : ℕ → ℕ → Bool) (terms : List Term) (front : List ℕ) (i : ℕ) → i < length front → length terms < 1 → false ≡ terms_begin has terms (drop i front)
 short_terms has terms [] i lt few = absurd (omega arith)

@@ -1,5 +1,5 @@
--- Whether an effect may set an atom of a clause where its first variables have some elements.
-use Rattle.std.specs.Prelude.{ℕ, Bool, true, false, ◌&&◌, ◌||◌, ◌==◌, List, [], ◌∷◌, ◌++◌, map, slice_get}
+-- Whether an effect may make a literal of a clause false where its first variables have some elements.
+use Rattle.std.specs.Prelude.{ℕ, Bool, true, false, not, ◌&&◌, ◌||◌, ◌==◌, List, [], ◌∷◌, ◌++◌, map, slice_get}
 use Rattle.std.specs.List.{list_any, AllByRecursion}
 use Rattle.std.specs.Option.{option_map_or}
 use Rattle.spec_model.specs.declared.clause.Clause.{Clause}
@@ -24,19 +24,19 @@ terms_may has front [] (v ∷ vars) = false
 terms_may has front (t ∷ terms) [] = false
 terms_may has front (t ∷ terms) (v ∷ vars) = term_may has front t v && terms_may has front terms vars
 
--- the line may set the predicate at these variables
-abbrev pub line_may : Inst → List ℕ → ℕ → List ℕ → Line → Bool
-line_may inst front p vars (Set q terms) = p == q && terms_may (inst_has inst) front terms vars
-line_may inst front p vars (Clear q terms) = p == q && terms_may (inst_has inst) front terms vars
-line_may inst front p vars (Add n params amount) = false
-line_may inst front p vars (Sub n params amount) = false
+-- the line may make a literal of this sign false, over the predicate at these variables
+abbrev pub line_may : Inst → List ℕ → Bool → ℕ → List ℕ → Line → Bool
+line_may inst front sign p vars (Set q terms) = not sign && (p == q && terms_may (inst_has inst) front terms vars)
+line_may inst front sign p vars (Clear q terms) = sign && (p == q && terms_may (inst_has inst) front terms vars)
+line_may inst front sign p vars (Add n params amount) = false
+line_may inst front sign p vars (Sub n params amount) = false
 
-abbrev pub literal_may : Inst → List Line → List ℕ → Literal → Bool
-literal_may inst lines front (Atom p vars) = list_any (line_may inst front p vars) lines
-literal_may inst lines front (Equal l r) = false
+abbrev pub literal_may : Inst → List Line → List ℕ → Bool → Literal → Bool
+literal_may inst lines front sign (Atom p vars) = list_any (line_may inst front sign p vars) lines
+literal_may inst lines front sign (Equal l r) = false
 
 abbrev pub clause_may : Inst → List Line → List ℕ → Clause → Bool
-clause_may inst lines front c = list_any (literal_may inst lines front) c.premise || list_any (literal_may inst lines front) c.conclusion
+clause_may inst lines front c = list_any (literal_may inst lines front false) c.premise || list_any (literal_may inst lines front true) c.conclusion
 
 -- a literal's atom at these elements is one of the universe
 abbrev pub LiteralStands : Spec → List ℕ → Literal → Type 0

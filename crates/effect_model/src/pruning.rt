@@ -1,5 +1,6 @@
-//! The next element at which an effect may set an atom of a clause, by the first elements of its
-//! variables.
+//! The next element at which an effect may make a literal of a clause false, by the first elements
+//! of its variables. A premise literal only becomes false by a line that sets its atom, and a
+//! conclusion literal only by one that clears it.
 
 ghost use Rattle.std.specs.Prelude.{◌≡◌, ◌<◌, ◌≤◌, ◌++◌, ◌∷◌, [], ℕ, false};
 ghost use Rattle.std.specs.List.{list_any};
@@ -38,12 +39,13 @@ fn terms_may(inst: &Inst, front: &[u32], terms: &[Term], vars: &[u32]) -> bool
     left.is_empty()
 }
 
-/// What is done where the first variables have these elements.
+/// What is done to literals of one sign where the first variables have these elements.
 #[derive(Clone, Copy)]
 struct Seeking<'a> {
     inst: &'a Inst,
     lines: &'a [Line],
     front: &'a [u32],
+    sign: bool,
 }
 
 impl Seeking<'_> {
@@ -89,27 +91,27 @@ impl Seeking<'_> {
         }
     }
 
-    /// The first element, from this one on, with which a line may set a predicate at these variables.
+    /// The first element, from this one on, with which a line may make the literal false that is over a
+    /// predicate at these variables.
     fn line_next(&self, pred: u32, vars: &[u32], line: &Line, from: u32) -> u32
         ensures later { from ≤ result }
-        ensures untouched { (x : ℕ) → from ≤ x → x < result → pruning.line_may self.now.inst.now (self.now.front.now ++ x ∷ []) pred vars.now line.now ≡ false }
+        ensures untouched { (x : ℕ) → from ≤ x → x < result → pruning.line_may self.now.inst.now (self.now.front.now ++ x ∷ []) self.now.sign pred vars.now line.now ≡ false }
     {
         match line {
-            Line::Set { pred: of, terms } | Line::Clear { pred: of, terms } => {
-                if pred == *of {
-                    self.terms_next(terms.as_slice(), vars, from)
-                } else {
-                    u32::MAX
-                }
+            Line::Set { pred: of, terms } if !self.sign && pred == *of => {
+                self.terms_next(terms.as_slice(), vars, from)
+            }
+            Line::Clear { pred: of, terms } if self.sign && pred == *of => {
+                self.terms_next(terms.as_slice(), vars, from)
             }
             _ => u32::MAX,
         }
     }
 
-    /// The first element, from this one on, with which some line may set a predicate at these variables.
+    /// The first element, from this one on, with which some line may make that literal false.
     fn lines_next(&self, pred: u32, vars: &[u32], from: u32) -> u32
         ensures later { from ≤ result }
-        ensures untouched { (x : ℕ) → from ≤ x → x < result → list_any (pruning.line_may self.now.inst.now (self.now.front.now ++ x ∷ []) pred vars.now) self.now.lines.now ≡ false }
+        ensures untouched { (x : ℕ) → from ≤ x → x < result → list_any (pruning.line_may self.now.inst.now (self.now.front.now ++ x ∷ []) self.now.sign pred vars.now) self.now.lines.now ≡ false }
     {
         let mut next = u32::MAX;
         for line in self.lines {
@@ -118,10 +120,10 @@ impl Seeking<'_> {
         next
     }
 
-    /// The first element, from this one on, with which some line may set the atom of a literal.
+    /// The first element, from this one on, with which some line may make a literal false.
     fn literal_next(&self, literal: &Literal, from: u32) -> u32
         ensures later { from ≤ result }
-        ensures untouched { (x : ℕ) → from ≤ x → x < result → pruning.literal_may self.now.inst.now self.now.lines.now (self.now.front.now ++ x ∷ []) literal.now ≡ false }
+        ensures untouched { (x : ℕ) → from ≤ x → x < result → pruning.literal_may self.now.inst.now self.now.lines.now (self.now.front.now ++ x ∷ []) self.now.sign literal.now ≡ false }
     {
         match literal {
             Literal::Atom { pred, vars } => self.lines_next(*pred, vars.as_slice(), from),
@@ -129,10 +131,10 @@ impl Seeking<'_> {
         }
     }
 
-    /// The first element, from this one on, with which some line may set the atom of one of these literals.
+    /// The first element, from this one on, with which some line may make one of these literals false.
     fn literals_next(&self, literals: &[Literal], from: u32) -> u32
         ensures later { from ≤ result }
-        ensures untouched { (x : ℕ) → from ≤ x → x < result → list_any (pruning.literal_may self.now.inst.now self.now.lines.now (self.now.front.now ++ x ∷ [])) literals.now ≡ false }
+        ensures untouched { (x : ℕ) → from ≤ x → x < result → list_any (pruning.literal_may self.now.inst.now self.now.lines.now (self.now.front.now ++ x ∷ []) self.now.sign) literals.now ≡ false }
     {
         let mut next = u32::MAX;
         for literal in literals {
@@ -142,8 +144,8 @@ impl Seeking<'_> {
     }
 }
 
-/// The first element, from this one on, such that some line may set an atom of the clause where its
-/// variables have these first elements and then that one.
+/// The first element, from this one on, such that some line may make a literal of the clause false
+/// where its variables have these first elements and then that one.
 pub(crate) fn next_broken(
     inst: &Inst,
     lines: &[Line],
@@ -154,8 +156,17 @@ pub(crate) fn next_broken(
     ensures later { from ≤ result }
     ensures untouched { (x : ℕ) → from ≤ x → x < result → pruning.clause_may inst.now lines.now (front.now ++ x ∷ []) clause.now ≡ false }
 {
-    let seeking = Seeking { inst, lines, front };
-    let premise = seeking.literals_next(clause.premise.as_slice(), from);
-    let conclusion = seeking.literals_next(clause.conclusion.as_slice(), from);
+    let setting = Seeking {
+        inst,
+        lines,
+        front,
+        sign: false,
+    };
+    let clearing = Seeking {
+        sign: true,
+        ..setting
+    };
+    let premise = setting.literals_next(clause.premise.as_slice(), from);
+    let conclusion = clearing.literals_next(clause.conclusion.as_slice(), from);
     premise.min(conclusion)
 }

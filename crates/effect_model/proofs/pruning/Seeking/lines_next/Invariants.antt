@@ -7,5 +7,5 @@ use Rattle.effect_model.proofs.pruning.Seeking.lines_next.Given as goal
 abbrev pub invariant-loop-line : goal.invariant-loop-line
 invariant-loop-line l = record {
   later : l.from ≤ l.next;
-  untouched : (x : ℕ) → l.from ≤ x → x < l.next → list_any (line_may l.self.inst.now (l.self.front.now ++ x ∷ []) l.pred l.vars) (take l.line-index l.self.lines.now) ≡ false;
+  untouched : (x : ℕ) → l.from ≤ x → x < l.next → list_any (line_may l.self.inst.now (l.self.front.now ++ x ∷ []) l.self.sign l.pred l.vars) (take l.line-index l.self.lines.now) ≡ false;
 }

@@ -7,5 +7,5 @@ use Rattle.effect_model.proofs.pruning.Seeking.literals_next.Given as goal
 abbrev pub invariant-loop-literal : goal.invariant-loop-literal
 invariant-loop-literal l = record {
   later : l.from ≤ l.next;
-  untouched : (x : ℕ) → l.from ≤ x → x < l.next → list_any (literal_may l.self.inst.now l.self.lines.now (l.self.front.now ++ x ∷ [])) (take l.literal-index l.literals) ≡ false;
+  untouched : (x : ℕ) → l.from ≤ x → x < l.next → list_any (literal_may l.self.inst.now l.self.lines.now (l.self.front.now ++ x ∷ []) l.self.sign) (take l.literal-index l.literals) ≡ false;
 }
