@@ -134,11 +134,21 @@ pub fn cell_named(inst: &Inst, num: u32, params: &Args) -> Cell
     Cell { num, args }
 }
 
-/// Whether two lists of numbers are equal.
-fn same_numbers(a: &[u32], b: &[u32]) -> bool
-    ensures { result ≡ equal_numbers a.now b.now }
+/// Whether these parameters have these elements.
+fn elements_are(inst: &Inst, params: &[u32], elements: &[u32]) -> bool
+    ensures { result ≡ equal_numbers (changes.elements_at inst.now.args params.now) elements.now }
 {
-    a == b
+    let mut left = elements;
+    for place in params {
+        let [x, rest @ ..] = left else {
+            return false;
+        };
+        if first_of(inst, *place) != *x {
+            return false;
+        }
+        left = rest;
+    }
+    left.is_empty()
 }
 
 /// Whether the numbers begin with these.
@@ -162,8 +172,7 @@ pub(crate) fn begins_with(numbers: &[u32], front: &[u32]) -> bool
 fn names_cell(inst: &Inst, num: u32, params: &Args, cell: &Cell) -> bool
     ensures { result ≡ changes.same_cell (changes.cell_named inst.now num params.now) cell.now }
 {
-    let elements = elements_at(inst, params);
-    num == cell.num && same_numbers(elements.as_slice(), cell.args.as_slice())
+    num == cell.num && elements_are(inst, params.as_slice(), cell.args.as_slice())
 }
 
 /// How much a line adds to the cell.
