@@ -10,7 +10,7 @@ ghost use Rattle.effect_model.specs.Visits.{done_all};
 ghost use Rattle.causal_store.specs.Keeping.{no_sums, sum_by_item, sums_after};
 
 use effect_model::{
-    Visiting, cell_place, lines_of, net_fall, net_rise, next_changed, sort_sizes, visit_all,
+    Visiting, cell_place, lines_of, net_change, next_changed, sort_sizes, visit_all,
 };
 use ind_base::{Args, List, NoMemory};
 use spec_model::{Body, Cell, Inst, LogItem, Spec};
@@ -76,10 +76,9 @@ impl Visiting for Summing<'_> {
             args: *args,
         };
         let place = cell_place(self.spec, &cell);
-        let rise = net_rise(self.spec, self.inst, &cell);
-        let fall = net_fall(self.spec, self.inst, &cell);
+        let net = net_change(self.spec, self.inst, &cell);
         let before = kept.as_slice()[place];
-        let after = before.after(rise, fall);
+        let after = before.after(net.0, net.1);
         kept.set(place, after);
     }
 }

@@ -15,26 +15,19 @@ pub fn inst_sets(spec: &Spec, inst: &Inst, atom: &Atom) -> Option<bool>
     lines_set(inst, lines_of(spec, inst), atom.pred, atom.args.as_slice())
 }
 
-/// How much an instance raises the cell, all in all.
-pub fn net_rise(spec: &Spec, inst: &Inst, cell: &Cell) -> u64
+/// How much an instance raises the cell and how much it lowers it, all in all: at most one of them
+/// isn't 0.
+pub fn net_change(spec: &Spec, inst: &Inst, cell: &Cell) -> (u64, u64)
     requires well_formed { IsWellFormed spec.now }
-    ensures value { result ≡ changes.net_rise spec.now inst.now cell.now }
-    ensures small { result ≤ 16000000000 }
+    ensures rise { result.0 ≡ changes.net_rise spec.now inst.now cell.now }
+    ensures fall { result.1 ≡ changes.net_fall spec.now inst.now cell.now }
+    ensures small_rise { result.0 ≤ 16000000000 }
+    ensures small_fall { result.1 ≤ 16000000000 }
 {
     let lines = lines_of(spec, inst);
     let plus = lines_add(inst, lines, cell);
     let minus = lines_subtract(inst, lines, cell);
-    plus.saturating_sub(minus)
-}
-
-/// How much an instance lowers the cell, all in all.
-pub fn net_fall(spec: &Spec, inst: &Inst, cell: &Cell) -> u64
-    requires well_formed { IsWellFormed spec.now }
-    ensures value { result ≡ changes.net_fall spec.now inst.now cell.now }
-    ensures small { result ≤ 16000000000 }
-{
-    let lines = lines_of(spec, inst);
-    let plus = lines_add(inst, lines, cell);
-    let minus = lines_subtract(inst, lines, cell);
-    minus.saturating_sub(plus)
+    let rise = plus.saturating_sub(minus);
+    let fall = minus.saturating_sub(plus);
+    (rise, fall)
 }

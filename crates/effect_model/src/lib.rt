@@ -25,7 +25,7 @@ mod truth;
 mod visit;
 mod walk;
 
-pub use acting::{inst_sets, net_fall, net_rise};
+pub use acting::{inst_sets, net_change};
 pub use breaking::breaks;
 pub use change::{AtomChange, CellChange, Change};
 pub use effects::effect;
