@@ -39,11 +39,13 @@ impl Draft<'_> {
         requires draft { (v : View) × (from : ℕ) × (before : Sequence LogItemOf) × IsDraft setup.now v from before self.old }
         ensures { OnOk result ((v : View) (from : ℕ) (before : Sequence LogItemOf) → IsDraft setup.now v from before self.old → HasAnswered setup.now v from before to (want.now ∷ []) self.old self.new) }
     {
-        self.held.touch(setup, &want.right)?;
         let held = self.held.held(setup, &need_of(want));
         match answer(&held, want) {
             Give::Nothing => Ok(()),
-            Give::Piece(piece) => self.give(setup, to, want, piece),
+            Give::Piece(piece) => {
+                self.held.touch(setup, &want.right)?;
+                self.give(setup, to, want, piece)
+            }
         }
     }
 

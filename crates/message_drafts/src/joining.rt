@@ -26,10 +26,10 @@ impl Draft<'_> {
         requires next { (v : View) × (from : ℕ) × (before : Sequence LogItemOf) × IsNext v from before item.now × (item.now.body ≡ body.Out v.me right.now piece.now) × HasAccepted setup.now v from before self.old }
         ensures { IfOk result (λ joined. (v : View) (from : ℕ) (before : Sequence LogItemOf) → IsNext v from before item.now → item.now.body ≡ body.Out v.me right.now piece.now → HasAccepted setup.now v from before self.old → Joins setup.now v from before item.now joined self.new) }
     {
-        self.held.touch(setup, right)?;
         if !self.held.can_accept(setup, right, piece) {
             return Ok(false);
         }
+        self.held.touch(setup, right)?;
         self.held.accept(setup, right, piece);
         let _so_far = self.bodies.as_slice();
         self.bodies.push(Body::Accept {
