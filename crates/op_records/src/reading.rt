@@ -233,7 +233,7 @@ fn items_of(
     requires { replicas ≤ 8 }
     ensures { IfOk result (λ read. Reads (many_at (item_at replicas) count) cursor.old cursor.new (option_map (λ v. v.items) read)) }
 {
-    let mut items = Vec::new(alloc);
+    let mut items = Vec::with_capacity(alloc, count as usize)?;
     for _ in 0..count {
         let Some(item) = cursor.item(replicas) else {
             return Ok(None);

@@ -36,9 +36,8 @@ impl Replica {
         requires room { HasRoom 0 self.now }
         ensures { IfOk result (λ batch. batch.items ≡ item_of (view_of self.now) (body.Act inst.now) ∷ []) }
     {
-        let mut items = List::new(alloc);
-        let _so_far = items.as_slice();
-        items.push(self.next(Body::Act(*inst)))?;
+        let item = self.next(Body::Act(*inst));
+        let items = List::from_slice(alloc, [item].as_slice())?;
         Ok(Batch { items })
     }
 
