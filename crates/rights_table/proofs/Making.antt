@@ -11,7 +11,7 @@ use Rattle.run_model.specs.Logs.{Logs}
 use Rattle.rights_table.specs.declared.table.Table.{Table}
 use Rattle.rights_table.specs.Tables.{TellTheSame}
 use Rattle.rights_table.specs.Bounded.{has_lower, has_upper}
-use Rattle.rights_table.specs.Touched.{MakesRoom, body_touches, cell_touches, item_touches, literal_touches, need_touches}
+use Rattle.rights_table.specs.Touched.{MakesRoom, body_touches, cell_touches, item_touches, literal_touches, need_touches, shared_touches}
 use Rattle.rights_table.specs.Whole.{HasAll, HasEntriesFor}
 use Rattle.rights_table.specs.Cells.{line_moves}
 use Rattle.run_model.specs.Levels.{at_literal, choices, choices_of, forbid_at}
@@ -110,11 +110,11 @@ any_default (x ∷ xs) (suc k) d e lt = any_default xs k d e (omega (arith, lt))
 
 -- a witness touches the entries of its literals
 pub forbid_touches : (need : Need) (literals xs : List ℕ) (r : Right) → need.amount ≡ amount.AnyForbid literals → xs ≡ literals → need_touches r need ≡ list_any (literal_touches need.right r) xs
-forbid_touches need literals xs r is same = ap (λ (a : Amount). list_any (λ choice. same_right choice.right r) (choices_of need.right a)) is ∙ mapped literals ∙ ap (list_any (literal_touches need.right r)) (sym same)
+forbid_touches need literals xs r is same = ap (λ (a : Amount). list_any (λ choice. shared_touches choice.right r) (choices_of need.right a)) is ∙ mapped literals ∙ ap (list_any (literal_touches need.right r)) (sym same)
   where
-    mapped : (ns : List ℕ) → list_any (λ choice. same_right choice.right r) (map (forbid_at need.right) ns) ≡ list_any (literal_touches need.right r) ns
+    mapped : (ns : List ℕ) → list_any (λ choice. shared_touches choice.right r) (map (forbid_at need.right) ns) ≡ list_any (literal_touches need.right r) ns
     mapped [] = refl
-    mapped (n ∷ ns) = ap (λ b. same_right (at_literal need.right n) r || b) (mapped ns)
+    mapped (n ∷ ns) = ap (λ b. shared_touches (at_literal need.right n) r || b) (mapped ns)
 
 -- ---- of cells and lines
 
@@ -170,7 +170,7 @@ all_entered setup items needs old mid new one two = record {
       (ap (λ (b : Body). body_touches setup.spec (item.origin == old.me) b r) act
       ∙ ap (λ b. b && list_any (line_moves setup.spec inst r) (effect_lines setup.spec inst)) (ap (λ n. n == old.me) (mine ∙ two.same.me ∙ one.same.me) ∙ itself old.me) ∙ moves)));
   needed = λ need choice there chosen shared. two.entered refl choice.right (any_from (need_touches choice.right) needs need (got needs need there)
-      (any_from (λ c. same_right c.right choice.right) (choices need) choice (got (choices need) choice chosen) (same_refl choice.right)));
+      (any_from (λ c. shared_touches c.right choice.right) (choices need) choice (got (choices need) choice chosen) (ap (λ b. b && same_right choice.right choice.right) shared ∙ same_refl choice.right)));
 }
   where
     itself : (n : ℕ) → (n == n) ≡ true

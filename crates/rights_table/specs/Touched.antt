@@ -13,7 +13,7 @@ use Rattle.spec_model.specs.declared.log.LogItem.{LogItem}
 use Rattle.spec_model.specs.Changes.{effect_lines, same_cell}
 use Rattle.spec_model.specs.Universe.{lower_bound, upper_bound}
 use Rattle.run_model.specs.Levels.{at_literal, choices}
-use Rattle.run_model.specs.Rights.{same_right}
+use Rattle.run_model.specs.Rights.{is_shared, same_right}
 use Rattle.rights_table.specs.declared.table.Table.{Table}
 use Rattle.rights_table.specs.Cells.{line_moves}
 use Rattle.rights_table.specs.Tables.{IsEntered, KeepsEntries, TellTheSame}
@@ -39,10 +39,14 @@ body_touches spec mine (body.Accept from at) r = false
 abbrev pub item_touches : Spec → ℕ → Right → LogItem → Bool
 item_touches spec me r item = body_touches spec (item.origin == me) item.body r
 
+-- a right that is held in shares
+abbrev pub shared_touches : Right → Right → Bool
+shared_touches of r = is_shared of && same_right of r
+
 -- the entry of another literal of a right's instance
 abbrev pub literal_touches : Right → Right → ℕ → Bool
-literal_touches of r n = same_right (at_literal of n) r
+literal_touches of r n = shared_touches (at_literal of n) r
 
--- a need touches the rights of its choices
+-- a need touches the rights of its choices that are held in shares: an act changes the modes of these alone
 abbrev pub need_touches : Right → Need → Bool
-need_touches r need = list_any (λ choice. same_right choice.right r) (choices need)
+need_touches r need = list_any (λ choice. shared_touches choice.right r) (choices need)

@@ -4,6 +4,7 @@ ghost use Rattle.std.specs.Prelude.{◌≡◌, ◌&&◌, [], false, is_ok};
 ghost use Rattle.std.specs.List.{AllByRecursion, list_any};
 ghost use Rattle.spec_model.specs.declared.right.Right.TheVariants as right_of;
 ghost use Rattle.run_model.specs.Fitting.{BodyFits, NeedFits, SetupFits};
+ghost use Rattle.run_model.specs.Rights as rights;
 ghost use Rattle.run_model.specs.Rights.{same_right};
 ghost use Rattle.rights_table.specs.Bounded as bounded;
 
@@ -14,10 +15,21 @@ use effect_model::cell_named;
 use ind_base::NoMemory;
 use spec_model::{Amount, Body, Cell, Inst, Line, LogItem, Need, Right, Setup};
 
+/// Whether a right is held in shares.
+fn is_shared(right: &Right) -> bool
+    ensures { result ≡ rights.is_shared right.now }
+{
+    match right {
+        Right::Lock { .. } => true,
+        Right::Entry { .. } => true,
+        _ => false,
+    }
+}
+
 impl Table {
     ghost use Rattle.rights_table.specs.Cells.{line_moves};
     ghost use Rattle.rights_table.specs.Tables.{replicas_of};
-    ghost use Rattle.rights_table.specs.Touched.{MakesRoom, body_touches, cell_touches, item_touches, literal_touches, need_touches};
+    ghost use Rattle.rights_table.specs.Touched.{MakesRoom, body_touches, cell_touches, item_touches, literal_touches, need_touches, shared_touches};
 
     /// Makes room for a right.
     fn ready_right(&mut self, setup: &Setup, right: &Right) -> Result<(), NoMemory>
@@ -137,13 +149,26 @@ impl Table {
         Ok(())
     }
 
+    /// Makes room for a right that is held in shares.
+    fn ready_shared(&mut self, setup: &Setup, right: &Right) -> Result<(), NoMemory>
+        requires setup { SetupFits setup.now }
+        requires replicas { replicas_of self.old ≡ setup.now.replicas }
+        ensures { MakesRoom setup.now (is_ok result) (shared_touches right.now) self.old self.new }
+    {
+        if is_shared(right) {
+            self.ready_right(setup, right)
+        } else {
+            Ok(())
+        }
+    }
+
     /// Makes room for the entry of a literal of the right's instance.
     fn ready_literal(&mut self, setup: &Setup, right: &Right, literal: u32) -> Result<(), NoMemory>
         requires setup { SetupFits setup.now }
         requires replicas { replicas_of self.old ≡ setup.now.replicas }
         ensures { MakesRoom setup.now (is_ok result) (λ r. literal_touches right.now r literal) self.old self.new }
     {
-        self.ready_right(setup, &at_literal(right, literal))
+        self.ready_shared(setup, &at_literal(right, literal))
     }
 
     /// Makes room for the entries of these literals of the right's instance.
@@ -163,7 +188,7 @@ impl Table {
         Ok(())
     }
 
-    /// Makes room for what a need may be met by.
+    /// Makes room for the shares that a need may be met by.
     fn ready_need(&mut self, setup: &Setup, need: &Need) -> Result<(), NoMemory>
         requires setup { SetupFits setup.now }
         requires replicas { replicas_of self.old ≡ setup.now.replicas }
@@ -173,11 +198,11 @@ impl Table {
             Amount::AnyForbid(literals) => {
                 self.ready_literals(setup, &need.right, literals.as_slice())
             }
-            _ => self.ready_right(setup, &need.right),
+            _ => self.ready_shared(setup, &need.right),
         }
     }
 
-    /// Makes room for what needs may be met by.
+    /// Makes room for the shares that needs may be met by.
     pub(crate) fn ready_needs(&mut self, setup: &Setup, needs: &[Need]) -> Result<(), NoMemory>
         requires setup { SetupFits setup.now }
         requires replicas { replicas_of self.old ≡ setup.now.replicas }
