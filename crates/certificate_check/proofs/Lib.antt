@@ -7,7 +7,9 @@ pub mod Universe
 pub mod Unseparated
 pub mod Verdicts
 pub mod Walks
+pub mod Repeats
 pub mod Reservations
+pub mod Rests
 pub mod Saying
 pub mod SaidSoFar
 pub mod Grown

@@ -12,6 +12,10 @@ use crate::verdict::Why;
 use ground_clauses::{Lit, Step};
 use ind_base::{List, NoMemory};
 use std::alloc::Global;
+use std::collections::HashSet;
+
+/// So many literals are sooner looked through than kept in a set.
+const FEW: usize = 32;
 
 /// What a clause has left.
 #[derive(Clone, Copy)]
@@ -65,10 +69,10 @@ fn rest_of(falses: &[Lit], clause: &[Lit]) -> Rest
     let mut found = Rest::Nothing;
     for lit in clause {
         if !among(falses, lit) {
-            found = match found {
-                Rest::Nothing => Rest::One(*lit),
-                _ => Rest::Many,
-            };
+            match found {
+                Rest::Nothing => found = Rest::One(*lit),
+                _ => return Rest::Many,
+            }
         }
     }
     found
@@ -150,9 +154,9 @@ fn has_variable(var: u32, lits: &[Lit]) -> bool
     false
 }
 
-/// Whether some variable stands twice.
+/// Whether some variable stands twice, of few literals.
 #[tactic(auto, using(crate::proofs::Hints::repeats_step))]
-fn repeats(lits: &[Lit]) -> bool
+fn few_repeat(lits: &[Lit]) -> bool
     ensures { result ≡ derivations.repeats lits.now }
 {
     let mut left = lits;
@@ -166,6 +170,32 @@ fn repeats(lits: &[Lit]) -> bool
     false
 }
 
+/// Whether some variable stands twice, of many literals.
+fn many_repeat(alloc: Global, lits: &[Lit]) -> Result<bool, NoMemory>
+    ensures { IfOk result (λ yes. yes ≡ derivations.repeats lits.now) }
+{
+    let mut seen = HashSet::new(alloc);
+    let mut at = lits.len();
+    'back: while at > 0 {
+        at -= 1;
+        if !seen.insert(lits[at].var)? {
+            return Ok(true);
+        }
+    }
+    Ok(false)
+}
+
+/// Whether some variable stands twice.
+fn repeats(alloc: Global, lits: &[Lit]) -> Result<bool, NoMemory>
+    ensures { IfOk result (λ yes. yes ≡ derivations.repeats lits.now) }
+{
+    if lits.len() <= FEW {
+        Ok(few_repeat(lits))
+    } else {
+        many_repeat(alloc, lits)
+    }
+}
+
 /// Whether a step is right, from the clauses and the steps before it.
 fn is_right(
     alloc: Global,
@@ -175,7 +205,7 @@ fn is_right(
 ) -> Result<bool, NoMemory>
     ensures { IfOk result (λ yes. yes ≡ derivations.is_right (clauses.now ++ steps_lits earlier.now) step.now) }
 {
-    if repeats(step.lits.as_slice()) {
+    if repeats(alloc, step.lits.as_slice())? {
         return Ok(false);
     }
     let falses = step.lits.copy(alloc)?;
