@@ -1,11 +1,11 @@
 //! What one word of a line says.
 
-ghost use Rattle.std.specs.Prelude.{◌≡◌};
+ghost use Rattle.std.specs.Prelude.{◌≡◌, MatchOption, None};
+ghost use Rattle.certificate_lines.specs.Digits.{AreDigits, begins_plain};
 ghost use Rattle.certificate_lines.specs.Forms as forms;
 
 use crate::words::cut_at;
 use ground_clauses::Lit;
-use ind_base::read_num;
 use spec_model::Pair;
 
 /// What a word may say.
@@ -30,14 +30,42 @@ fn narrow(number: Option<u64>) -> Option<u32>
     }
 }
 
+/// The value of digits, where they are digits; of a value that 32 bits don't hold it may give none.
+fn value_of(word: &[u8]) -> Option<u64>
+    ensures { MatchOption result (forms.number_of word.now ≡ None) (λ n. AreDigits word.now n) }
+{
+    let mut value = 0;
+    for digit in word {
+        if !digit.is_ascii_digit() || value > 4_294_967_295 {
+            return None;
+        }
+        value = 10 * value + u64::from(*digit - b'0');
+    }
+    Some(value)
+}
+
+/// Whether digits have no zero at their head that could be left out.
+fn is_plain(word: &[u8]) -> bool
+    ensures { result ≡ begins_plain word.now }
+{
+    match word {
+        [] => false,
+        [_] => true,
+        [first, ..] => *first != b'0',
+    }
+}
+
 impl Word for u32 {
     ghost use Rattle.certificate_lines.specs.Forms as forms;
 
     ghost reads = { forms.number_of };
 
-    #[tactic(auto, unfolding(crate::specs::Forms::number_of))]
+    #[tactic(auto, using(crate::proofs::Digits::plain_number, crate::proofs::Digits::no_number))]
     fn read(word: &[u8]) -> Option<u32> {
-        narrow(read_num(word))
+        match value_of(word) {
+            Some(value) if is_plain(word) => narrow(Some(value)),
+            _ => None,
+        }
     }
 }
 
