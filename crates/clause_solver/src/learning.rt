@@ -87,7 +87,7 @@ fn choices_of(trail: &Trail) -> Choices {
 
 /// Whether a marked variable got its value between these places.
 fn any_marked(trail: &Trail, marks: &Items<bool>, from: usize, to: usize) -> bool {
-    for at in from..to {
+    for at in (from..to).rev() {
         if let Some(entry) = trail.entries.get(at)
             && is_marked(marks, entry.lit.var)
         {
