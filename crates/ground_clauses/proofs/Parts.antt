@@ -55,6 +55,10 @@ touches_parts sets c cs =
     ∙ ap (λ b. b || list_any (λ l. list_any (set_at sets) (literal_atoms cs l.literal)) (map (signed true) c.conclusion)) (literals_set sets cs false c.premise)
     ∙ ap (λ b. list_any (is_set sets cs) c.premise || b) (literals_set sets cs true c.conclusion)
 
+pub values_end : (cs xs : List ℕ) (i : ℕ) (d : ℕ) (ys : List ℕ) → i < length xs → length ys < 1 → false ≡ same_list (values cs (drop i xs)) ys
+values_end cs xs i d [] lt few = at_place (λ zs. false ≡ same_list (values cs zs) []) xs i d lt refl
+values_end cs xs i d (y ∷ ys) lt few = absurd (omega arith)
+
 pub same_end : (xs : List ℕ) (i : ℕ) (d : ℕ) (ys : List ℕ) → i < length xs → length ys < 1 → false ≡ same_list (drop i xs) ys
 same_end xs i d [] lt few = at_place (λ zs. false ≡ same_list zs []) xs i d lt refl
 same_end xs i d (y ∷ ys) lt few = absurd (omega arith)

@@ -14,7 +14,7 @@ use crate::literals::same_atom;
 use crate::pattern::{class_count, pattern_sorts};
 use crate::places::clause_at;
 use crate::slots::Slots;
-use crate::touched::{equalities_true, target_classes, values};
+use crate::touched::{class_at, equalities_true, target_classes, values};
 use ind_base::{List, NoMemory};
 use spec_model::{Args, Atom, Clause, Literal, Spec, Var};
 
@@ -76,15 +76,42 @@ fn add_clause_atoms(
     Ok(())
 }
 
+/// Whether an atom's arguments are the classes of these variables.
+#[tactic(auto, using(crate::proofs::Building::map_step, crate::proofs::Parts::values_end))]
+fn same_values(classes: &[u32], vars: &[u32], args: &[u32]) -> bool
+    ensures { result ≡ queries.same_list (truths.values classes.now vars.now) args.now }
+{
+    let mut left = args;
+    for var in vars {
+        let [class, rest @ ..] = left else {
+            return false;
+        };
+        if class_at(classes, *var) != *class {
+            return false;
+        }
+        left = rest;
+    }
+    left.is_empty()
+}
+
+/// Whether the predicate's atom at the classes of these variables is among these.
+fn values_among(pred: u32, classes: &[u32], vars: &[u32], atoms: &[Atom]) -> bool
+    ensures { result ≡ list_any (queries.same_atom (queries.atom_of pred (truths.values classes.now vars.now))) atoms.now }
+{
+    for other in atoms {
+        if pred == other.pred && same_values(classes, vars, other.args.as_slice()) {
+            return true;
+        }
+    }
+    false
+}
+
 /// Whether a literal, at the classes, is one of the target's atoms.
 fn shares(target: &[Atom], literal: &Literal, classes: &[u32]) -> bool
     ensures { result ≡ is_shared target.now classes.now literal.now }
 {
     match literal {
-        Literal::Atom { pred, vars } => {
-            let args = values(classes, vars);
-            atom_among(&Atom { pred: *pred, args }, target)
-        }
+        Literal::Atom { pred, vars } => { values_among(*pred, classes, vars.as_slice(), target) }
         Literal::Equal { .. } => false,
     }
 }

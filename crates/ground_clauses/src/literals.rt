@@ -8,7 +8,7 @@ ghost use Rattle.ground_clauses.specs.Query as queries;
 ghost use Rattle.ground_clauses.specs.Rows as rows;
 ghost use Rattle.ground_clauses.specs.Rows.{CanLook, IsNumbered, IsNumberedForm};
 
-use crate::rows::{Looking, Row, Seen, find_row, seen_in};
+use crate::rows::{Looking, Row, Seen, row_of, seen_in};
 use crate::state_lit::{StateLit, Variable};
 use crate::touched::{class_at, values};
 use ind_base::{List, NoMemory};
@@ -160,8 +160,20 @@ fn row_form(row: &Row, sign: bool, moment: Moment) -> KnownForm
     }
 }
 
+/// An atom with this truth in a state. Its row stands where the slots say, or is made anew.
+#[tactic(auto, using(crate::proofs::Looking::atom_formed, crate::proofs::Looking::atom_numbered, crate::proofs::Apart::row_there, crate::proofs::Apart::atom_same))]
+fn atom_form(looking: &Looking<'_>, moment: Moment, sign: bool, atom: &Atom) -> KnownForm
+    requires { CanLook looking.now }
+    ensures form { rows.form_of result ≡ queries.atom_form looking.now.asked.spec.now sign atom.now (queries.entry_at looking.now.asked.spec.now (sets_in looking.now.asked) atom.now moment) }
+    ensures number { IsNumberedForm looking.now.asked.variables.now result }
+{
+    match looking.rows.get(looking.slots.hint(atom)) {
+        Some(row) if same_atom(atom, &row.atom) => row_form(row, sign, moment),
+        _ => row_form(&row_of(&looking.asked, atom, 0), sign, moment),
+    }
+}
+
 /// A literal with this truth, at classes, in a state.
-#[tactic(auto, using(crate::proofs::Looking::atom_formed, crate::proofs::Looking::atom_numbered))]
 pub(crate) fn literal_form(
     looking: &Looking<'_>,
     moment: Moment,
@@ -176,8 +188,7 @@ pub(crate) fn literal_form(
     match literal {
         Literal::Atom { pred, vars } => {
             let args = values(classes, vars);
-            let row = find_row(looking, &Atom { pred: *pred, args });
-            row_form(&row, sign, moment)
+            atom_form(looking, moment, sign, &Atom { pred: *pred, args })
         }
         Literal::Equal { left, right } => {
             let equal = class_at(classes, *left) == class_at(classes, *right);

@@ -70,7 +70,7 @@ fn see(variables: &[Variable], atom: &Atom, entry: Entry, near: usize) -> Seen
 }
 
 /// The row of an atom, whose variables are looked for from this place on first.
-fn row_of(asked: &Asked<'_>, atom: &Atom, near: usize) -> Row
+pub(crate) fn row_of(asked: &Asked<'_>, atom: &Atom, near: usize) -> Row
     requires can { CanAsk asked.now }
     requires apart { AreApart asked.now.variables.now }
     ensures row { IsRow asked.now result }
