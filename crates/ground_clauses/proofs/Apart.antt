@@ -1,18 +1,21 @@
 -- The variables of a query are apart, so each has one place.
-use Rattle.std.proofs.Common.{◌≡◌, inl, inr, ℕ, zero, suc, ◌<◌, Bool, true, false, ◌||◌, ◌&&◌, cond, List, [], ◌∷◌, ◌++◌, length, get_or, refl, sym, ap, subst, ◌∙◌, arith}
+use Rattle.std.proofs.Common.{◌≡◌, inl, inr, ℕ, zero, suc, ◌<◌, Bool, true, false, ◌||◌, ◌&&◌, cond, List, [], ◌∷◌, ◌++◌, length, get_or, map, refl, sym, ap, subst, ◌∙◌, arith}
 use Rattle.std.specs.Prelude.{Some, slice_get}
 use Rattle.std.specs.List.{list_any, flat_map, AllByRecursion}
 use Rattle.std.proofs.lemmas.Bool.{cases_Bool, true≢false}
+use Rattle.std.proofs.lemmas.List.{length-map}
 use Rattle.std.proofs.lemmas.Map.Keys.{any_passes_from_place}
 use Rattle.std.proofs.lemmas.Option.{slice_get-get_or, slice_get_within, get_or_from_slice_get}
 use Rattle.ground_clauses.proofs.Lists.{each_weaker}
 use Rattle.ground_clauses.proofs.Numbers.{same_atom-true, same_atom_itself, same_variable-true}
 use Rattle.ground_clauses.proofs.Parts.{any_append}
-use Rattle.ground_clauses.specs.Query.{Hypothesis, Sets, atom_variables, atoms_of, dedup_after, entry_at, entry_variables, index_of, instance_atoms, same_atom, same_moment, same_variable, variable}
-use Rattle.ground_clauses.specs.Rows.{AreApart, IsRow}
+use Rattle.ground_clauses.specs.Query.{Hypothesis, Sets, atom_variables, atoms_of, dedup_after, entry_at, entry_variables, index_of, instance_atoms, same_atom, same_moment, same_variable, variable, winner}
+use Rattle.ground_clauses.specs.Rows.{AreApart, IsRow, touches_at}
 use Rattle.ground_clauses.specs.declared.queries.Asked.{Asked}
 use Rattle.ground_clauses.specs.declared.rows.Row.{Row}
 use Rattle.ground_clauses.specs.declared.state_lit.Variable.{Variable}
+use Rattle.ground_clauses.specs.declared.table.Touches.{Touches}
+use Rattle.spec_model.specs.Stable.{touch_of}
 use Rattle.spec_model.specs.declared.instance.Atom.{Atom as ClassAtom}
 use Rattle.spec_model.specs.declared.spec.Spec.{Spec}
 use Rattle.spec_model.specs.declared.state.Entry.{Entry}
@@ -40,6 +43,27 @@ row_there q rows i r h is = each_at (IsRow q) rows i r h is
 
 pub atom_same : (a : ClassAtom) (r : Row) → same_atom a r.atom ≡ true → r.atom ≡ a
 atom_same a r h = sym (same_atom-true a r.atom h)
+
+-- ---- what the operations do to each atom
+
+pub place_touched : (spec : Spec) (sets : Sets) (atoms : List ClassAtom) (ts : List Touches) (i : ℕ) → ts ≡ map (touches_at spec sets) atoms → i < length atoms → i < length ts
+place_touched spec sets atoms ts i is lt = subst (λ n. i < n) (sym (ap length is ∙ length-map atoms (touches_at spec sets))) lt
+
+at_map : (spec : Spec) (sets : Sets) (atoms : List ClassAtom) (i : ℕ) (d : Touches) (e : ClassAtom) → i < length atoms → get_or (map (touches_at spec sets) atoms) i d ≡ touches_at spec sets (get_or atoms i e)
+at_map spec sets [] i d e lt = absurd (omega arith)
+at_map spec sets (a ∷ atoms) zero d e lt = refl
+at_map spec sets (a ∷ atoms) (suc i) d e lt = at_map spec sets atoms i d e (omega arith)
+
+touched_at : (spec : Spec) (sets : Sets) (atoms : List ClassAtom) (ts : List Touches) (i : ℕ) (d : Touches) (e : ClassAtom) → ts ≡ map (touches_at spec sets) atoms → i < length atoms → get_or ts i d ≡ touches_at spec sets (get_or atoms i e)
+touched_at spec sets atoms ts i d e is lt = ap (λ xs. get_or xs i d) is ∙ at_map spec sets atoms i d e lt
+
+pub first_at : (spec : Spec) (sets : Sets) (atoms : List ClassAtom) (ts : List Touches) (i : ℕ) (d : Touches) (e : ClassAtom) → ts ≡ map (touches_at spec sets) atoms → i < length atoms
+    → (get_or ts i d).first ≡ touch_of (winner spec (get_or atoms i e)) (sets.one (get_or atoms i e).pred (get_or atoms i e).args)
+first_at spec sets atoms ts i d e is lt = ap (λ t. t.first) (touched_at spec sets atoms ts i d e is lt)
+
+pub second_at : (spec : Spec) (sets : Sets) (atoms : List ClassAtom) (ts : List Touches) (i : ℕ) (d : Touches) (e : ClassAtom) → ts ≡ map (touches_at spec sets) atoms → i < length atoms
+    → (get_or ts i d).second ≡ touch_of (winner spec (get_or atoms i e)) (sets.other (get_or atoms i e).pred (get_or atoms i e).args)
+second_at spec sets atoms ts i d e is lt = ap (λ t. t.second) (touched_at spec sets atoms ts i d e is lt)
 
 -- ---- the variables of one atom
 

@@ -8,11 +8,14 @@ use Rattle.ground_clauses.proofs.Reaches.{at_place}
 use Rattle.ground_clauses.specs.Cases.{case_sets, equalities_true, over}
 use Rattle.ground_clauses.specs.Instances.{atoms_at, is_shared, meets}
 use Rattle.ground_clauses.specs.Literals.{clause_forms, signed_forms}
-use Rattle.ground_clauses.specs.Query.{Sets, atom_of, atom_variables, clause_of, dedup, entry_at, entry_variables, form_lits, forms, has_both_signs, index_of, instance_atoms, is_certain, literal_atoms, literal_form, same_atom, same_lit, signed_form}
+use Rattle.ground_clauses.specs.Query.{Sets, atom_of, clause_of, dedup, entry_variables, form_lits, forms, has_both_signs, index_of, instance_atoms, is_certain, literal_atoms, literal_form, same_atom, same_lit, signed_form, winner}
+use Rattle.ground_clauses.specs.Rows.{touched_variables, touches_at}
 use Rattle.ground_clauses.specs.declared.state_lit.Form.{Form}
 use Rattle.ground_clauses.specs.declared.state_lit.StateLit.{StateLit}
 use Rattle.ground_clauses.specs.declared.state_lit.Variable.{Variable}
 use Rattle.ground_clauses.specs.declared.queries.Asked.{Asked}
+use Rattle.ground_clauses.specs.declared.table.Touches.{Touches}
+use Rattle.spec_model.specs.Stable.{entry, touch_of}
 use Rattle.spec_model.specs.Truths.{literals, signed, values}
 use Rattle.spec_model.specs.declared.clause.Clause.{Clause}
 use Rattle.spec_model.specs.declared.clause.Literal.{Literal}
@@ -21,6 +24,8 @@ use Rattle.spec_model.specs.declared.instance.Atom.{Atom as ClassAtom}
 use Rattle.spec_model.specs.declared.spec.Spec.{Spec}
 use Rattle.spec_model.specs.declared.state.Moment.{Moment}
 use Rattle.spec_model.specs.declared.state.Moment.TheVariants.{Both, First, Second, Start}
+use Rattle.spec_model.specs.declared.state.Touch.{Touch}
+use Rattle.std.specs.Prelude.{Option}
 
 pub forms_step : (q : Asked) (m : Moment) (cs : List ℕ) (sign : Bool) (ls : List Literal) (i : ℕ) (d : Literal) → i < length ls
     → signed_forms q m cs sign (drop i ls) ≡ literal_form q.spec.now (case_sets q.spec.now q.case.now) m cs sign (get_or ls i d) ∷ signed_forms q m cs sign (drop (i + 1) ls)
@@ -100,15 +105,22 @@ meets_parts atoms c cs =
 
 -- ---- variables
 
-pub four_variables : (spec : Spec) (sets : Sets) (a : ClassAtom) (xs : List Variable)
-    → (((xs ++ entry_variables a Start (entry_at spec sets a Start)) ++ entry_variables a First (entry_at spec sets a First)) ++ entry_variables a Second (entry_at spec sets a Second)) ++ entry_variables a Both (entry_at spec sets a Both)
-    ≡ xs ++ atom_variables spec sets a
-four_variables spec sets a xs =
-    let s = entry_variables a Start (entry_at spec sets a Start) in
-    let f = entry_variables a First (entry_at spec sets a First) in
-    let o = entry_variables a Second (entry_at spec sets a Second) in
-    let b = entry_variables a Both (entry_at spec sets a Both) in
+pub four_variables : (a : ClassAtom) (t : Touches) (xs : List Variable)
+    → (((xs ++ entry_variables a Start (entry t.first t.second Start)) ++ entry_variables a First (entry t.first t.second First)) ++ entry_variables a Second (entry t.first t.second Second)) ++ entry_variables a Both (entry t.first t.second Both)
+    ≡ xs ++ touched_variables a t
+four_variables a t xs =
+    let s = entry_variables a Start (entry t.first t.second Start) in
+    let f = entry_variables a First (entry t.first t.second First) in
+    let o = entry_variables a Second (entry t.first t.second Second) in
+    let b = entry_variables a Both (entry t.first t.second Both) in
     append_assoc ((xs ++ s) ++ f) o b ∙ append_assoc (xs ++ s) f (o ++ b) ∙ append_assoc xs s (f ++ (o ++ b)) ∙ ap (λ ys. xs ++ (s ++ (f ++ (o ++ ys)))) (sym (append-nil b))
+
+-- what is found of an atom by the two operations of a case
+pub own_touches : (spec : Spec) (sets : Sets) (a : ClassAtom) (t : Touches) (one other : ℕ → List ℕ → Option Bool) → one ≡ sets.one → other ≡ sets.other
+    → t.first ≡ touch_of (winner spec a) (one a.pred a.args) → t.second ≡ touch_of (winner spec a) (other a.pred a.args) → t ≡ touches_at spec sets a
+own_touches spec sets a t one other first second is_first is_second =
+    ap (λ (x : Touch). let r : Touches = record { first = x; second = t.second } in r) (is_first ∙ ap (λ (f : ℕ → List ℕ → Option Bool). touch_of (winner spec a) (f a.pred a.args)) first)
+    ∙ ap (λ (y : Touch). let r : Touches = record { first = touch_of (winner spec a) (sets.one a.pred a.args); second = y } in r) (is_second ∙ ap (λ (f : ℕ → List ℕ → Option Bool). touch_of (winner spec a) (f a.pred a.args)) second)
 
 pub flat_step : {X Y : Type 0} (f : X → List Y) (xs : List X) (i : ℕ) (d : X) → i < length xs → flat_map f (drop i xs) ≡ f (get_or xs i d) ++ flat_map f (drop (i + 1) xs)
 flat_step f xs i d lt = at_place (λ ys. flat_map f ys ≡ f (get_or xs i d) ++ flat_map f (drop (i + 1) xs)) xs i d lt refl
@@ -118,3 +130,16 @@ map_step f xs i d lt = at_place (λ ys. map f ys ≡ f (get_or xs i d) ∷ map f
 
 pub index_step : {X : Type 0} (test : X → Bool) (xs : List X) (i : ℕ) (d : X) → i < length xs → index_of test (drop i xs) ≡ cond (test (get_or xs i d)) 0 (suc (index_of test (drop (i + 1) xs)))
 index_step test xs i d lt = at_place (λ ys. index_of test ys ≡ cond (test (get_or xs i d)) 0 (suc (index_of test (drop (i + 1) xs)))) xs i d lt refl
+
+-- one more of a list that is made from another, element by element
+pub more_mapped : {X Y : Type 0} (f : X → Y) (xs : List X) (i : ℕ) (d : X) (old new : List Y) (y : Y) (whole : List Y) → i < length xs → new ≡ old ++ y ∷ [] → y ≡ f (get_or xs i d)
+    → old ++ map f (drop i xs) ≡ whole → new ++ map f (drop (i + 1) xs) ≡ whole
+more_mapped f xs i d old new y whole lt is at h =
+    ap (λ ys. ys ++ map f (drop (i + 1) xs)) is ∙ append_assoc old (y ∷ []) (map f (drop (i + 1) xs)) ∙ ap (λ z. old ++ z ∷ map f (drop (i + 1) xs)) at
+    ∙ ap (λ zs. old ++ zs) (sym (map_step f xs i d lt)) ∙ h
+
+pub more_flat : {X Y : Type 0} (f : X → List Y) (xs : List X) (i : ℕ) (d : X) (old new ys whole : List Y) → i < length xs → new ≡ old ++ ys → ys ≡ f (get_or xs i d)
+    → old ++ flat_map f (drop i xs) ≡ whole → new ++ flat_map f (drop (i + 1) xs) ≡ whole
+more_flat f xs i d old new ys whole lt is at h =
+    ap (λ zs. zs ++ flat_map f (drop (i + 1) xs)) is ∙ append_assoc old ys (flat_map f (drop (i + 1) xs)) ∙ ap (λ zs. old ++ (zs ++ flat_map f (drop (i + 1) xs))) at
+    ∙ ap (λ zs. old ++ zs) (sym (flat_step f xs i d lt)) ∙ h

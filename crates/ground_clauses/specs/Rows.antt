@@ -1,9 +1,9 @@
 -- What a query says of its atoms, and literals with the numbers of their variables.
 use Rattle.std.specs.Prelude.{◌≡◌, Bool, true, false, ◌&&◌, ◌||◌, eqb, List, [], ◌∷◌, map}
-use Rattle.std.specs.List.{list_any, AllByRecursion}
+use Rattle.std.specs.List.{list_any, flat_map, AllByRecursion}
 use mathlib.Core.Bool.{beq}
 use Rattle.ground_clauses.specs.Asking.{CanAsk, sets_in}
-use Rattle.ground_clauses.specs.Query.{entry_at, index_of, opposite, same_lit, same_variable, state_lit, variable, winner}
+use Rattle.ground_clauses.specs.Query.{Sets, entry_at, entry_variables, index_of, opposite, same_lit, same_variable, state_lit, variable, winner}
 use Rattle.ground_clauses.specs.declared.clauses.Lit.{Lit}
 use Rattle.ground_clauses.specs.declared.literals.KnownLit.{KnownLit}
 use Rattle.ground_clauses.specs.declared.literals.KnownForm.{KnownForm}
@@ -17,6 +17,9 @@ use Rattle.ground_clauses.specs.declared.state_lit.Form.{Form}
 use Rattle.ground_clauses.specs.declared.state_lit.Form.TheVariants.{Constant, Open}
 use Rattle.ground_clauses.specs.declared.state_lit.StateLit.{StateLit}
 use Rattle.ground_clauses.specs.declared.state_lit.Variable.{Variable}
+use Rattle.ground_clauses.specs.declared.table.Touches.{Touches}
+use Rattle.spec_model.specs.Stable.{entry, touch_of}
+use Rattle.spec_model.specs.declared.spec.Spec.{Spec}
 use Rattle.spec_model.specs.declared.instance.Atom.{Atom as ClassAtom}
 use Rattle.spec_model.specs.declared.state.Entry.{Entry}
 use Rattle.spec_model.specs.declared.state.Entry.TheVariants.{Always, Same}
@@ -48,7 +51,13 @@ pub record IsSeen (q : Asked) (a : ClassAtom) (m : Moment) (s : Seen) : Type 0 w
   pub entry : entry_seen s ≡ entry_at q.spec.now (sets_in q) a m
   pub number : HasNumber q.variables.now a s
 
+-- what two operations do to an atom
+abbrev pub touches_at : Spec → Sets → ClassAtom → Touches
+touches_at spec sets a = record { first = touch_of (winner spec a) (sets.one a.pred a.args); second = touch_of (winner spec a) (sets.other a.pred a.args) }
+
 pub record IsRow (q : Asked) (r : Row) : Type 0 where
+  pub one : r.touches.first ≡ touch_of (winner q.spec.now r.atom) ((sets_in q).one r.atom.pred r.atom.args)
+  pub other : r.touches.second ≡ touch_of (winner q.spec.now r.atom) ((sets_in q).other r.atom.pred r.atom.args)
   pub wins : r.wins ≡ winner q.spec.now r.atom
   pub start : IsSeen q r.atom Start r.start
   pub first : IsSeen q r.atom First r.first
@@ -59,6 +68,10 @@ pub record CanLook (k : Looking) : Type 0 where
   pub can : CanAsk k.asked
   pub apart : AreApart k.asked.variables.now
   pub rows : AllByRecursion (IsRow k.asked) k.rows.now
+
+-- the variables of an atom to which the operations do this
+abbrev pub touched_variables : ClassAtom → Touches → List Variable
+touched_variables a t = flat_map (λ m. entry_variables a m (entry t.first t.second m)) (Start ∷ First ∷ Second ∷ Both ∷ [])
 
 -- ---- literals with their numbers
 

@@ -8,7 +8,7 @@ ghost use Rattle.ground_clauses.specs.Query as queries;
 ghost use Rattle.ground_clauses.specs.Rows as rows;
 ghost use Rattle.ground_clauses.specs.Rows.{CanLook, IsNumbered, IsNumberedForm};
 
-use crate::rows::{Looking, Row, Seen, row_of, seen_in};
+use crate::rows::{Looking, Row, Seen, new_row, seen_in};
 use crate::state_lit::{StateLit, Variable};
 use crate::touched::{class_at, values};
 use ind_base::{List, NoMemory};
@@ -169,7 +169,7 @@ fn atom_form(looking: &Looking<'_>, moment: Moment, sign: bool, atom: &Atom) -> 
 {
     match looking.rows.get(looking.slots.hint(atom)) {
         Some(row) if same_atom(atom, &row.atom) => row_form(row, sign, moment),
-        _ => row_form(&row_of(&looking.asked, atom, 0), sign, moment),
+        _ => row_form(&new_row(&looking.asked, atom), sign, moment),
     }
 }
 

@@ -25,8 +25,8 @@ use crate::places::clause_at;
 use crate::rows::{Looking, Row, Seen, find_row, list_rows, seen_in};
 use crate::slots::Slots;
 use crate::state_lit::{StateLit, Variable};
-use crate::table::{entry, touch_first, touch_second};
-use crate::touched::target_classes;
+use crate::table::{Touches, entry, touches_by};
+use crate::touched::{first_acting, second_acting, target_classes};
 use ind_base::{List, NoMemory};
 use spec_model::{Atom, Clause, Entry, Literal, Moment, Spec, Touch};
 use std::alloc::Global;
@@ -49,19 +49,16 @@ fn add_variable(
     Ok(())
 }
 
-/// Appends the atom's variables, in the order of the states.
+/// Appends the variables of an atom to which the operations do this, in the order of the states.
 #[tactic(auto, using(crate::proofs::Building::four_variables))]
 fn add_variables(
-    spec: &Spec,
-    case: &Case,
     atom: &Atom,
+    touches: Touches,
     variables: &mut List<Variable>,
 ) -> Result<(), NoMemory>
-    requires { CaseKnown spec.now case.now }
-    ensures { OnOk result (variables.new ≡ variables.old ++ queries.atom_variables spec.now (cases.case_sets spec.now case.now) atom.now) }
+    ensures { OnOk result (variables.new ≡ variables.old ++ rows.touched_variables atom.now touches) }
 {
-    let first = touch_first(spec, case, atom);
-    let second = touch_second(spec, case, atom);
+    let Touches { first, second } = touches;
     add_variable(
         atom,
         Moment::Start,
@@ -89,20 +86,28 @@ fn add_variables(
     Ok(())
 }
 
-/// Lists the variables of these atoms, in place of those listed before.
-#[tactic(auto, using(crate::proofs::Building::flat_step))]
+/// Lists what the operations do to these atoms, and the variables of the atoms, in place of those
+/// listed before.
+#[tactic(auto, using(crate::proofs::Building::flat_step, crate::proofs::Building::map_step))]
 fn list_variables(
     spec: &Spec,
     case: &Case,
     atoms: &[Atom],
+    touches: &mut List<Touches>,
     variables: &mut List<Variable>,
 ) -> Result<(), NoMemory>
     requires { CaseKnown spec.now case.now }
-    ensures { OnOk result (variables.new ≡ flat_map (queries.atom_variables spec.now (cases.case_sets spec.now case.now)) atoms.now) }
+    ensures touches { OnOk result (touches.new ≡ map (rows.touches_at spec.now (cases.case_sets spec.now case.now)) atoms.now) }
+    ensures variables { OnOk result (variables.new ≡ flat_map (queries.atom_variables spec.now (cases.case_sets spec.now case.now)) atoms.now) }
 {
+    touches.truncate(0);
     variables.truncate(0);
+    let first = first_acting(spec, case);
+    let second = second_acting(spec, case);
     for atom in atoms {
-        add_variables(spec, case, atom, variables)?;
+        let touched = touches_by(spec, &first, &second, atom);
+        add_variables(atom, touched, variables)?;
+        touches.push(touched)?;
     }
     Ok(())
 }
@@ -115,6 +120,7 @@ pub(crate) struct Subject<'a> {
     pub(crate) found: List<Instance<'a>>,
     pub(crate) atoms: List<Atom>,
     pub(crate) slots: Slots,
+    touches: List<Touches>,
     pub(crate) variables: List<Variable>,
 }
 
@@ -126,6 +132,7 @@ impl<'a> Subject<'a> {
             found: List::new(alloc),
             atoms: List::new(alloc),
             slots: Slots::new(alloc),
+            touches: List::new(alloc),
             variables: List::new(alloc),
         }
     }
@@ -138,13 +145,20 @@ impl<'a> Subject<'a> {
         requires clause { place < length spec.now.clauses }
         ensures found { OnOk result (map instance_of self.new.found ≡ cases.case_hypotheses spec.now case.now place) }
         ensures atoms { OnOk result (self.new.atoms ≡ queries.atoms_of (cases.case_hypotheses spec.now case.now place)) }
+        ensures touches { OnOk result (self.new.touches ≡ map (rows.touches_at spec.now (cases.case_sets spec.now case.now)) self.new.atoms) }
         ensures variables { OnOk result (self.new.variables ≡ flat_map (queries.atom_variables spec.now (cases.case_sets spec.now case.now)) self.new.atoms) }
         ensures few { OnOk result (length self.new.variables < 2 ^ 32) }
         ensures apart { OnOk result (AreApart self.new.variables) }
     {
         find_hypotheses(spec, case, place, &mut self.target, &mut self.found)?;
         list_atoms(self.found.as_slice(), &mut self.slots, &mut self.atoms)?;
-        list_variables(spec, case, self.atoms.as_slice(), &mut self.variables)?;
+        list_variables(
+            spec,
+            case,
+            self.atoms.as_slice(),
+            &mut self.touches,
+            &mut self.variables,
+        )?;
         Ok(())
     }
 }
@@ -361,9 +375,7 @@ fn add_row(alloc: Global, asked: &Asked<'_>, row: &Row, draft: &mut Draft) -> Re
     requires row { IsRow asked.now row.now }
     ensures { OnOk result (draft.new.cnf.clauses ≡ draft.old.cnf.clauses ++ row_clauses asked.now row.now.atom) }
 {
-    let first = touch_first(asked.spec, asked.case, &row.atom);
-    let second = touch_second(asked.spec, asked.case, &row.atom);
-    match (first, second) {
+    match (row.touches.first, row.touches.second) {
         (Touch::Loses, Touch::Loses) => push_four_rises(alloc, asked, row, draft),
         (Touch::Loses, _) => push_rise(alloc, asked, row, Moment::First, Moment::Start, draft),
         (_, Touch::Loses) => push_rise(alloc, asked, row, Moment::Second, Moment::Start, draft),
@@ -529,7 +541,12 @@ impl<'a> Queries<'a> {
             case,
             variables,
         };
-        list_rows(&asked, subject.atoms.as_slice(), &mut self.rows)?;
+        list_rows(
+            &asked,
+            subject.atoms.as_slice(),
+            subject.touches.as_slice(),
+            &mut self.rows,
+        )?;
         let looking = Looking {
             asked,
             rows: self.rows.as_slice(),

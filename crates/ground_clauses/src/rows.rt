@@ -1,17 +1,18 @@
 //! What a query says of its atoms, found once for each.
 
-ghost use Rattle.std.specs.Prelude.{◌≡◌, ◌≤◌, ◌<◌, ◌^◌, [], length, OnOk};
+ghost use Rattle.std.specs.Prelude.{◌≡◌, ◌≤◌, ◌<◌, ◌^◌, [], length, map, OnOk};
 ghost use Rattle.std.specs.List.{AllByRecursion};
 ghost use Rattle.spec_model.specs.declared.state.Entry.{Entry as OneEntry};
-ghost use Rattle.ground_clauses.specs.Asking.{CanAsk};
+ghost use Rattle.ground_clauses.specs.Asking.{CanAsk, sets_in};
 ghost use Rattle.ground_clauses.specs.Query as queries;
-ghost use Rattle.ground_clauses.specs.Rows.{AreApart, CanLook, HasNumber, IsRow, entry_seen, seen_at};
+ghost use Rattle.spec_model.specs.Stable as stable;
+ghost use Rattle.ground_clauses.specs.Rows.{AreApart, CanLook, HasNumber, IsRow, entry_seen, seen_at, touches_at};
 
 use crate::literals::{same_atom, same_variable};
 use crate::queries::{Asked, number_of};
 use crate::slots::Slots;
 use crate::state_lit::Variable;
-use crate::table::{entry, touch_first, touch_second, winner};
+use crate::table::{Touches, entry, touches_in, winner};
 use ind_base::{List, NoMemory};
 use spec_model::{Atom, Entry, Moment};
 
@@ -23,11 +24,13 @@ pub(crate) enum Seen {
     Same { moment: Moment, number: u32 },
 }
 
-/// An atom of a query, the truth that wins there, and what it is in the four states.
+/// An atom of a query, the truth that wins there, what the operations do to it, and what it is in
+/// the four states.
 #[derive(Clone, Copy)]
 pub(crate) struct Row {
     pub(crate) atom: Atom,
     pub(crate) wins: bool,
+    pub(crate) touches: Touches,
     pub(crate) start: Seen,
     pub(crate) first: Seen,
     pub(crate) second: Seen,
@@ -69,24 +72,37 @@ fn see(variables: &[Variable], atom: &Atom, entry: Entry, near: usize) -> Seen
     }
 }
 
-/// The row of an atom, whose variables are looked for from this place on first.
-pub(crate) fn row_of(asked: &Asked<'_>, atom: &Atom, near: usize) -> Row
+/// The row of an atom, to which the operations do this, and whose variables are looked for from this
+/// place on first.
+fn row_of(asked: &Asked<'_>, atom: &Atom, touches: Touches, near: usize) -> Row
     requires can { CanAsk asked.now }
     requires apart { AreApart asked.now.variables.now }
+    requires first { touches.first ≡ stable.touch_of (queries.winner asked.now.spec.now atom.now) ((sets_in asked.now).one atom.now.pred atom.now.args) }
+    requires second { touches.second ≡ stable.touch_of (queries.winner asked.now.spec.now atom.now) ((sets_in asked.now).other atom.now.pred atom.now.args) }
     ensures row { IsRow asked.now result }
     ensures atom { result.atom ≡ atom.now }
 {
-    let first = touch_first(asked.spec, asked.case, atom);
-    let second = touch_second(asked.spec, asked.case, atom);
+    let Touches { first, second } = touches;
     let variables = asked.variables;
     Row {
         atom: *atom,
+        touches,
         wins: winner(asked.spec, atom.pred),
         start: see(variables, atom, entry(first, second, Moment::Start), near),
         first: see(variables, atom, entry(first, second, Moment::First), near),
         second: see(variables, atom, entry(first, second, Moment::Second), near),
         both: see(variables, atom, entry(first, second, Moment::Both), near),
     }
+}
+
+/// The row of an atom that isn't listed.
+pub(crate) fn new_row(asked: &Asked<'_>, atom: &Atom) -> Row
+    requires can { CanAsk asked.now }
+    requires apart { AreApart asked.now.variables.now }
+    ensures row { IsRow asked.now result }
+    ensures atom { result.atom ≡ atom.now }
+{
+    row_of(asked, atom, touches_in(asked.spec, asked.case, atom), 0)
 }
 
 /// What the atom of a row is in a state.
@@ -117,20 +133,23 @@ fn next_place(row: &Row, place: usize) -> usize {
     place_behind(row.both, place)
 }
 
-/// Lists the rows of these atoms, in place of those listed before.
+/// Lists the rows of these atoms, to which the operations do this, in place of those listed before.
+#[tactic(auto, using(crate::proofs::Apart::place_touched, crate::proofs::Apart::first_at, crate::proofs::Apart::second_at))]
 pub(crate) fn list_rows(
     asked: &Asked<'_>,
     atoms: &[Atom],
+    touches: &[Touches],
     rows: &mut List<Row>,
 ) -> Result<(), NoMemory>
     requires can { CanAsk asked.now }
     requires apart { AreApart asked.now.variables.now }
+    requires touched { touches.now ≡ map (touches_at asked.now.spec.now (sets_in asked.now)) atoms.now }
     ensures { OnOk result (AllByRecursion (IsRow asked.now) rows.new) }
 {
     rows.truncate(0);
     let mut near = 0;
-    for atom in atoms {
-        let row = row_of(asked, atom, near);
+    for place in 0..atoms.len() {
+        let row = row_of(asked, &atoms[place], touches[place], near);
         near = next_place(&row, near);
         rows.push(row)?;
     }
@@ -154,6 +173,6 @@ pub(crate) fn find_row(looking: &Looking<'_>, atom: &Atom) -> Row
 {
     match looking.rows.get(looking.slots.hint(atom)) {
         Some(row) if same_atom(atom, &row.atom) => *row,
-        _ => row_of(&looking.asked, atom, 0),
+        _ => new_row(&looking.asked, atom),
     }
 }

@@ -5,10 +5,12 @@ ghost use Rattle.spec_model.specs.Stable as stable;
 ghost use Rattle.spec_model.specs.Truths as truths;
 ghost use Rattle.ground_clauses.specs.Cases as cases;
 ghost use Rattle.ground_clauses.specs.Cases.{CaseKnown};
+ghost use Rattle.ground_clauses.specs.Fronts.{acts};
 ghost use Rattle.ground_clauses.specs.Query as queries;
 
 use crate::case::Case;
-use crate::touched::{first_sets, second_sets};
+use crate::reach::op_sets;
+use crate::touched::{Acting, first_sets, second_sets};
 use spec_model::{Atom, Entry, Moment, Rule, Spec, Touch};
 
 /// Whether the winning value of a rule is true.
@@ -69,7 +71,7 @@ pub(crate) fn entry(first: Touch, second: Touch, moment: Moment) -> Entry
 }
 
 /// What the two operations of a case do to an atom.
-pub(crate) fn touch_first(spec: &Spec, case: &Case, atom: &Atom) -> Touch
+fn touch_first(spec: &Spec, case: &Case, atom: &Atom) -> Touch
     requires { CaseKnown spec.now case.now }
     ensures { result ≡ stable.touch_of (queries.winner spec.now atom.now) ((cases.case_sets spec.now case.now).one atom.now.pred atom.now.args) }
 {
@@ -80,7 +82,7 @@ pub(crate) fn touch_first(spec: &Spec, case: &Case, atom: &Atom) -> Touch
 }
 
 /// What the second operation of a case does to an atom.
-pub(crate) fn touch_second(spec: &Spec, case: &Case, atom: &Atom) -> Touch
+fn touch_second(spec: &Spec, case: &Case, atom: &Atom) -> Touch
     requires { CaseKnown spec.now case.now }
     ensures { result ≡ stable.touch_of (queries.winner spec.now atom.now) ((cases.case_sets spec.now case.now).other atom.now.pred atom.now.args) }
 {
@@ -88,6 +90,53 @@ pub(crate) fn touch_second(spec: &Spec, case: &Case, atom: &Atom) -> Touch
         winner(spec, atom.pred),
         second_sets(spec, case, atom.pred, atom.args.as_slice()),
     )
+}
+
+/// What the two operations of a case do to an atom.
+#[derive(Clone, Copy)]
+pub(crate) struct Touches {
+    pub(crate) first: Touch,
+    pub(crate) second: Touch,
+}
+
+/// What an operation does to an atom where this value wins.
+fn touch_by(wins: bool, acting: &Acting<'_>, atom: &Atom) -> Touch
+    ensures { result ≡ stable.touch_of wins (acts acting.now atom.now.pred atom.now.args) }
+{
+    let args = atom.args.as_slice();
+    touch_of(
+        wins,
+        op_sets(acting.op, acting.classes, acting.bits, atom.pred, args),
+    )
+}
+
+/// What two operations do to an atom.
+pub(crate) fn touches_by(
+    spec: &Spec,
+    first: &Acting<'_>,
+    second: &Acting<'_>,
+    atom: &Atom,
+) -> Touches
+    ensures first { result.first ≡ stable.touch_of (queries.winner spec.now atom.now) (acts first.now atom.now.pred atom.now.args) }
+    ensures second { result.second ≡ stable.touch_of (queries.winner spec.now atom.now) (acts second.now atom.now.pred atom.now.args) }
+{
+    let wins = winner(spec, atom.pred);
+    Touches {
+        first: touch_by(wins, first, atom),
+        second: touch_by(wins, second, atom),
+    }
+}
+
+/// What the two operations of a case do to an atom.
+pub(crate) fn touches_in(spec: &Spec, case: &Case, atom: &Atom) -> Touches
+    requires { CaseKnown spec.now case.now }
+    ensures first { result.first ≡ stable.touch_of (queries.winner spec.now atom.now) ((cases.case_sets spec.now case.now).one atom.now.pred atom.now.args) }
+    ensures second { result.second ≡ stable.touch_of (queries.winner spec.now atom.now) ((cases.case_sets spec.now case.now).other atom.now.pred atom.now.args) }
+{
+    Touches {
+        first: touch_first(spec, case, atom),
+        second: touch_second(spec, case, atom),
+    }
 }
 
 /// The table's entry for an atom in a state.

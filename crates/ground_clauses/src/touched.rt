@@ -133,7 +133,7 @@ pub(crate) struct Acting<'a> {
 }
 
 /// The first operation of a case.
-fn first_acting<'a>(spec: &'a Spec, case: &'a Case) -> Acting<'a>
+pub(crate) fn first_acting<'a>(spec: &'a Spec, case: &'a Case) -> Acting<'a>
     requires { CaseKnown spec.now case.now }
     ensures { acts result ≡ (cases.case_sets spec.now case.now).one }
 {
@@ -145,7 +145,7 @@ fn first_acting<'a>(spec: &'a Spec, case: &'a Case) -> Acting<'a>
 }
 
 /// The second operation of a case.
-fn second_acting<'a>(spec: &'a Spec, case: &'a Case) -> Acting<'a>
+pub(crate) fn second_acting<'a>(spec: &'a Spec, case: &'a Case) -> Acting<'a>
     requires { CaseKnown spec.now case.now }
     ensures { acts result ≡ (cases.case_sets spec.now case.now).other }
 {
