@@ -1,5 +1,5 @@
 -- What becomes of entries where one is changed, or one is added.
-use Rattle.std.proofs.Common.{◌≡◌, inl, inr, ℕ, Bool, true, false, List, [], ◌∷◌, refl, sym, ap, subst, ◌∙◌}
+use Rattle.std.proofs.Common.{◌≡◌, inl, inr, ℕ, zero, suc, Bool, true, false, List, [], ◌∷◌, length, refl, sym, ap, subst, ◌∙◌}
 use Rattle.std.specs.Prelude.{Option, Some, None, IsSome, is_some, ◌&&◌, Result, Ok, Err, OnOk, OnErr}
 use Rattle.std.specs.Map.{lookup, set_value}
 use Rattle.std.proofs.lemmas.Option.{same_Some}
@@ -27,6 +27,11 @@ there_is_none None is = refl
 
 pub some_is : (o : Option Holding) (h : Holding) → o ≡ Some h → IsSome o
 some_is o h is = ap is_some is
+
+-- without entries there is none
+pub empty_has : (es : List (Right × Holding)) (r : Right) → length es ≡ 0 → is_some (lookup (same_right r) es) ≡ false
+empty_has [] r none = refl
+empty_has (e ∷ es) r none = absurd cc
 
 -- ---- kinds
 

@@ -15,10 +15,12 @@ impl Table {
     ghost use Rattle.rights_table.specs.Tables.{IsEntered, IsHeldBy, TakesOver, entered, replicas_of};
 
     /// Whether a right has an entry.
+    #[tactic(auto, using(crate::proofs::Entries::empty_has))]
     pub(crate) fn has(&self, right: &Right) -> bool
         ensures { result ≡ is_some (entered self.now right.now) }
     {
-        self.entries.contains_key(&Key::of(right))
+        // Few drafts touch a right, and where none was touched nothing is hashed.
+        !self.entries.is_empty() && self.entries.contains_key(&Key::of(right))
     }
 
     /// The holding of a right, in a value of its own.
