@@ -108,7 +108,7 @@ pub(crate) fn fitting_wants(
     requires setup { SetupFits setup.now }
     ensures { IfOk result (AreFitting setup.now wants.now) }
 {
-    let mut fitting = List::new(alloc);
+    let mut fitting = List::from_vec(Vec::with_capacity(alloc, wants.len())?);
     for want in wants {
         if want_fits(setup, want) {
             let _so_far = fitting.as_slice();

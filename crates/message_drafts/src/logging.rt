@@ -34,7 +34,7 @@ pub(crate) fn items_of(
     ensures { IfOk result (λ items. (p : Standing) → p.cut ≡ cut → length p.log ≡ slice_index cut me → (logged_all me bodies.now p).log ≡ p.log ++ items) }
 {
     let mut seen = cut;
-    let mut items = List::new(alloc);
+    let mut items = List::from_vec(Vec::with_capacity(alloc, bodies.len())?);
     for body in bodies {
         let index = seen.as_slice()[me as usize];
         let item = LogItem {

@@ -36,7 +36,8 @@ fn batched(
 {
     let bodies = decided.bodies.as_slice();
     let own = items_of(alloc, me, cut, bodies)?;
-    let mut items = List::from_slice(alloc, applied)?;
+    let mut items = List::from_vec(Vec::with_capacity(alloc, applied.len() + own.len())?);
+    items.extend(applied)?;
     items.extend(own.as_slice())?;
     Ok(Taken {
         batch: Batch { items },

@@ -152,8 +152,9 @@ impl Replica {
         requires own { IsReplica setup.now self.now.me self.now }
         ensures { IfOk result (λ l. l ≡ map (less (holds_of setup.now self.now)) self.now.wants) }
     {
-        let mut lacking = List::new(alloc);
-        for want in self.wants.list() {
+        let wants = self.wants.list();
+        let mut lacking = List::from_vec(Vec::with_capacity(alloc, wants.len())?);
+        for want in wants {
             let _so_far = lacking.as_slice();
             lacking.push(self.still_lacking(setup, want))?;
         }
