@@ -77,7 +77,8 @@ fn frame_of(alloc: Global, replicas: u32, batch: &Batch) -> Result<Items<u8>, No
 {
     let bytes = encode_batch(alloc, replicas, batch)?;
     let count = (bytes.len() as u32).to_be_bytes();
-    let mut frame = Items::from_slice(alloc, count.as_slice())?;
+    let mut frame = Items::from_vec(Vec::with_capacity(alloc, bytes.len() + 5)?);
+    frame.extend(count.as_slice())?;
     frame.extend(bytes.as_slice())?;
     frame.push(0)?;
     Ok(frame)
