@@ -32,7 +32,7 @@ fn merge_two(alloc: Global, a: &[StepEntry], b: &[StepEntry]) -> Result<List<Ste
     ensures merged { IfOk result (λ c. Merges a.now b.now c) }
     ensures in_order { IfOk result (λ c. InOrder c) }
 {
-    let mut out = List::new(alloc);
+    let mut out = List::from_vec(Vec::with_capacity(alloc, a.len().saturating_add(b.len()))?);
     let mut a = a;
     let mut b = b;
     'joining: while !a.is_empty() && !b.is_empty() {
