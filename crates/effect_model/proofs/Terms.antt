@@ -1,7 +1,9 @@
 -- What terms touch, and the first elements of what they touch.
 use Rattle.std.proofs.Common.{◌≡◌, ℕ, zero, suc, ◌<◌, Bool, false, ◌&&◌, leb, List, [], ◌∷◌, drop, length, get_or, refl, sym, ap, ◌∙◌, arith, None}
 use Rattle.std.specs.List.{slice_get}
+use Rattle.std.specs.Option.{option_map, option_map_or}
 use Rattle.std.specs.Str.{bytes_eq}
+use Rattle.std.proofs.lemmas.Option.{slice_get-map}
 use Rattle.std.proofs.Math.Dec.{leb-suc-zero}
 use Rattle.std.proofs.Math.Bool.{and-false}
 use Rattle.ind_base.specs.declared.span.Span.{Span}
@@ -43,8 +45,12 @@ short_terms has [] (x ∷ front) zero lt few = refl
 short_terms has (t ∷ terms) (x ∷ front) zero lt few = absurd (omega arith)
 short_terms has terms (x ∷ front) (suc i) lt few = short_terms has terms front i (omega arith) few
 
-pub short_numbers : (numbers front : List ℕ) (i : ℕ) → i < length front → length numbers < 1 → false ≡ begins_with numbers (drop i front)
-short_numbers numbers [] i lt few = absurd (omega arith)
-short_numbers [] (x ∷ front) zero lt few = refl
-short_numbers (n ∷ numbers) (x ∷ front) zero lt few = absurd (omega arith)
-short_numbers numbers (x ∷ front) (suc i) lt few = short_numbers numbers front i (omega arith) few
+pub short_front : (args : List Span) (params front : List ℕ) (i : ℕ) → i < length front → length params < 1 → false ≡ begins_with (elements_at args params) (drop i front)
+short_front args params [] i lt few = absurd (omega arith)
+short_front args [] (x ∷ front) zero lt few = refl
+short_front args (p ∷ params) (x ∷ front) zero lt few = absurd (omega arith)
+short_front args params (x ∷ front) (suc i) lt few = short_front args params front i (omega arith) few
+
+-- the element of the parameter at a place
+pub element_of : (args : List Span) (params : List ℕ) (k : ℕ) → slice_get (elements_at args params) k ≡ option_map (λ i. option_map_or (λ (s : Span). s.lo) (slice_get args i) 0) (slice_get params k)
+element_of args params k = slice_get-map _ params k

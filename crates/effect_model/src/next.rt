@@ -2,10 +2,11 @@
 
 ghost use Rattle.std.specs.Prelude.{◌≡◌, ◌<◌, ◌≤◌, ◌++◌, ◌∷◌, [], ℕ, false, slice_get};
 ghost use Rattle.std.specs.List.{list_any};
+ghost use Rattle.spec_model.specs.Changes as changes;
 ghost use Rattle.spec_model.specs.Truths.{inst_has, term_has};
 ghost use Rattle.effect_model.specs.Touching as touching;
 
-use crate::touching::{begins_with, elements_at, terms_begin};
+use crate::touching::{elements_begin, first_of, terms_begin};
 use spec_model::{Inst, Line, Term};
 
 /// The term at a place.
@@ -95,16 +96,27 @@ pub fn next_set(inst: &Inst, lines: &[Line], pred: u32, front: &[u32], from: u32
     next
 }
 
-/// The first number, from this one on, with which these numbers go on behind the front.
-fn numbers_next(numbers: &[u32], front: &[u32], from: u32) -> u32
-    ensures later { from ≤ result }
-    ensures untouched { (x : ℕ) → from ≤ x → x < result → touching.begins_with numbers.now (front.now ++ x ∷ []) ≡ false }
+/// The element of the parameter at a place.
+#[tactic(auto, using(crate::proofs::Terms::element_of))]
+fn element_at(inst: &Inst, params: &[u32], at: usize) -> Option<u32>
+    ensures { result ≡ slice_get (changes.elements_at inst.now.args params.now) at }
 {
-    if !begins_with(numbers, front) {
+    match number_at(params, at) {
+        Some(place) => Some(first_of(inst, place)),
+        None => None,
+    }
+}
+
+/// The first element, from this one on, with which those of these parameters go on behind the front.
+fn elements_next(inst: &Inst, params: &[u32], front: &[u32], from: u32) -> u32
+    ensures later { from ≤ result }
+    ensures untouched { (x : ℕ) → from ≤ x → x < result → touching.begins_with (changes.elements_at inst.now.args params.now) (front.now ++ x ∷ []) ≡ false }
+{
+    if !elements_begin(inst, params, front) {
         return u32::MAX;
     }
-    match number_at(numbers, front.len()) {
-        Some(number) => { if from <= number { number } else { u32::MAX } }
+    match element_at(inst, params, front.len()) {
+        Some(element) => { if from <= element { element } else { u32::MAX } }
         None => u32::MAX,
     }
 }
@@ -126,8 +138,7 @@ fn line_next_changed(inst: &Inst, line: &Line, num: u32, front: &[u32], from: u3
             ..
         } => {
             if *of == num {
-                let elements = elements_at(inst, params);
-                numbers_next(elements.as_slice(), front, from)
+                elements_next(inst, params.as_slice(), front, from)
             } else {
                 u32::MAX
             }

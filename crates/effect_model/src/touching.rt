@@ -116,7 +116,7 @@ pub(crate) fn first_of(inst: &Inst, place: u32) -> u32
 }
 
 /// The elements of these parameters.
-pub(crate) fn elements_at(inst: &Inst, params: &Args) -> Args
+fn elements_at(inst: &Inst, params: &Args) -> Args
     ensures { result ≡ changes.elements_at inst.now.args params.now }
 {
     let mut elements = Args::new();
@@ -151,16 +151,16 @@ fn elements_are(inst: &Inst, params: &[u32], elements: &[u32]) -> bool
     left.is_empty()
 }
 
-/// Whether the numbers begin with these.
-pub(crate) fn begins_with(numbers: &[u32], front: &[u32]) -> bool
-    ensures { result ≡ touching.begins_with numbers.now front.now }
+/// Whether the elements of these parameters begin with these.
+pub(crate) fn elements_begin(inst: &Inst, params: &[u32], front: &[u32]) -> bool
+    ensures { result ≡ touching.begins_with (changes.elements_at inst.now.args params.now) front.now }
 {
-    let mut left = numbers;
+    let mut left = params;
     for y in front {
-        let [x, rest @ ..] = left else {
+        let [place, rest @ ..] = left else {
             return false;
         };
-        if *x != *y {
+        if first_of(inst, *place) != *y {
             return false;
         }
         left = rest;

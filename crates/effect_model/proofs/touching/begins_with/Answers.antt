@@ -1,7 +1,0 @@
-use Rattle.std.proofs.Common.{◌∙◌}
-use Rattle.effect_model.proofs.Terms.{short_numbers}
-use Rattle.effect_model.proofs.touching.begins_with.Goals as goal
-
-pub returns-in_default : goal.returns-in_default
-returns-in_default c =
-    short_numbers c.loop-y.left.now c.args.front.now c.loop-y.y-index c.loop-y-test.true c.in_default.len_below ∙ c.loop-y.invariant
