@@ -8,3 +8,4 @@ pub mod Fitting
 pub mod Lacks
 pub mod SaidAgain
 pub mod DocumentAgain
+pub mod InPlaces

@@ -8,3 +8,4 @@ pub mod Lacking
 pub mod Saying
 pub mod Again
 pub mod WellFormed
+pub mod InPlace

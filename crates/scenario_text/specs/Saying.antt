@@ -12,7 +12,7 @@ use Rattle.scenario_lines.specs.declared.argument.NamedArg.{NamedArg}
 use Rattle.scenario_lines.specs.declared.argument.NamedArg.TheVariants as args
 use Rattle.scenario_lines.specs.declared.line.RunLine.{RunLine}
 use Rattle.scenario_lines.specs.declared.line.RunLine.TheVariants as lines
-use Rattle.scenario_lines.specs.Texts.{line_text}
+use Rattle.scenario_lines.specs.Texts.{line_text, request_text}
 use Rattle.spec_language.specs.Saying.{op_name, spec_text}
 use Rattle.scenario_text.specs.Requests.{params_at}
 use Rattle.scenario_text.specs.declared.document.StopLine.{StopLine}
@@ -86,6 +86,10 @@ run_lines d = lines.Replicas d.replicas ∷ (map say_stop d.stops ++ work_lines 
 -- a line with its end
 unfoldable pub ended_text : RunLine → List ℕ
 ended_text line = line_text line ++ (10 ∷ [])
+
+-- a word with its space, a number and an instance, with the line's end
+abbrev pub inst_text : List Op → List ℕ → ℕ → Inst → List ℕ
+inst_text ops word n inst = request_text word n (op_name ops inst.op) (inst_args ops inst) ++ (10 ∷ [])
 
 -- the text of clients and their requests
 abbrev pub clients_text : List Op → ℕ → List ℕ → List ClientAsk → List ℕ

@@ -4,11 +4,12 @@ ghost use Rattle.std.specs.Prelude.{◌≡◌, ◌≤◌, ◌<◌, ◌+◌, true
 ghost use Rattle.std.specs.List.{AllByRecursion};
 ghost use Rattle.line_text.specs.Causes.{Gives};
 ghost use Rattle.spec_language.specs.Bounds.{Bounds as SpecBounds};
+ghost use Rattle.spec_lines.specs.declared.line.SpecLine.TheVariants as spec_lines;
 ghost use Rattle.scenario_text.specs.Draft as drafts;
 ghost use Rattle.scenario_text.specs.Bounds.{Bounds};
 
 use crate::document::{ClientAsk, Document, StopLine, Work};
-use crate::request::{inst_of, is_op, request_fits, request_within};
+use crate::request::{inst_of, is_op, op_place, request_fits, request_within};
 use ind_base::{Few, List};
 use ind_disk::Stop;
 use line_text::{Cause, LineError, guard};
@@ -87,6 +88,16 @@ impl Draft {
         Ok(())
     }
 
+    /// What a free pair adds, or its first cause.
+    #[tactic(auto, unfolding(crate::specs::Draft::take_spec, spec_language::specs::Draft::step))]
+    pub(crate) fn take_free(&mut self, first: &[u8], second: &[u8]) -> Result<(), LineError>
+        requires { SpecBounds self.old.spec }
+        ensures { Gives (λ _. self.new) result (drafts.take_spec self.old (spec_lines.Free first.now second.now)) }
+    {
+        guard(self.rank == 0, Cause::OutOfPlace)?;
+        self.spec.take_free(first, second)
+    }
+
     #[tactic(auto, unfolding(crate::specs::Draft::take_replicas))]
     fn take_replicas(&mut self, n: u64) -> Result<(), LineError>
         ensures { Gives (λ _. self.new) result (drafts.take_replicas self.old n) }
@@ -147,15 +158,24 @@ impl Draft {
     }
 
     #[tactic(auto, unfolding(crate::specs::Draft::take_do))]
-    fn take_do(&mut self, replica: u64, op: &[u8], args: &[NamedArg]) -> Result<(), LineError>
+    pub(crate) fn take_do(
+        &mut self,
+        replica: u64,
+        op: &[u8],
+        args: &[NamedArg],
+    ) -> Result<(), LineError>
         requires ops { length self.old.spec.spec.ops ≤ 64 }
         requires replicas { self.old.replicas ≤ 8 }
         ensures { Gives (λ _. self.new) result (drafts.take_do self.old replica op.now args.now) }
     {
         guard(self.schedule_next(), Cause::OutOfPlace)?;
-        guard(is_op(self.spec.spec.ops.as_slice(), op), Cause::UnknownName)?;
+        let place = op_place(self.spec.spec.ops.as_slice(), op);
         guard(
-            request_fits(self.spec.spec.ops.as_slice(), op, args),
+            is_op(self.spec.spec.ops.as_slice(), op, place),
+            Cause::UnknownName,
+        )?;
+        guard(
+            request_fits(self.spec.spec.ops.as_slice(), op, place, args),
             Cause::WrongArguments,
         )?;
         guard(
@@ -164,6 +184,7 @@ impl Draft {
                     self.spec.spec.sorts.as_slice(),
                     self.spec.spec.ops.as_slice(),
                     op,
+                    place,
                     args,
                 ),
             Cause::OutOfRange,
@@ -173,6 +194,7 @@ impl Draft {
             self.spec.spec.sorts.as_slice(),
             self.spec.spec.ops.as_slice(),
             op,
+            place,
             args,
         );
         self.add_order(replica as u32, Ask::Do(inst))
@@ -338,9 +360,13 @@ impl Draft {
         ensures { Gives (λ _. self.new) result (drafts.take_request self.old client op.now args.now) }
     {
         guard(self.ask_next(), Cause::OutOfPlace)?;
-        guard(is_op(self.spec.spec.ops.as_slice(), op), Cause::UnknownName)?;
+        let place = op_place(self.spec.spec.ops.as_slice(), op);
         guard(
-            request_fits(self.spec.spec.ops.as_slice(), op, args),
+            is_op(self.spec.spec.ops.as_slice(), op, place),
+            Cause::UnknownName,
+        )?;
+        guard(
+            request_fits(self.spec.spec.ops.as_slice(), op, place, args),
             Cause::WrongArguments,
         )?;
         guard(
@@ -349,6 +375,7 @@ impl Draft {
                     self.spec.spec.sorts.as_slice(),
                     self.spec.spec.ops.as_slice(),
                     op,
+                    place,
                     args,
                 ),
             Cause::OutOfRange,
@@ -358,6 +385,7 @@ impl Draft {
             self.spec.spec.sorts.as_slice(),
             self.spec.spec.ops.as_slice(),
             op,
+            place,
             args,
         );
         self.add_ask(client as u32, Ask::Do(inst))

@@ -4,6 +4,7 @@
 mod document;
 mod draft;
 mod group;
+mod in_place;
 mod printing;
 mod reading;
 mod request;

@@ -10,8 +10,10 @@ ghost use Rattle.scenario_text.specs.WellFormed.{IsWellFormedDocument};
 
 use crate::document::Document;
 use crate::draft::Draft;
+use crate::in_place::accept_in_place;
+use ind_base::List;
 use line_text::{Cause, LineError, ParseError, Token, at_line, line_tokens, split_line};
-use scenario_lines::run_line_of;
+use scenario_lines::{NamedArg, run_line_of};
 use spec_lines::spec_line_of;
 use std::alloc::Global;
 
@@ -47,14 +49,31 @@ fn take(draft: &mut Draft, alloc: Global, tokens: &[Token]) -> Result<(), LineEr
     }
 }
 
-/// Takes the next line.
+/// Takes the next line by its tokens.
 #[tactic(auto, unfolding(crate::specs::Reading::accept))]
-fn accept(draft: &mut Draft, alloc: Global, line: &[u8]) -> Result<(), LineError>
+fn accept_tokens(draft: &mut Draft, alloc: Global, line: &[u8]) -> Result<(), LineError>
     requires { Bounds draft.old }
     ensures { Gives (λ _. draft.new) result (reading.accept draft.old line.now) }
 {
     let tokens = line_tokens(alloc, line)?;
     take(draft, alloc, tokens.as_slice())
+}
+
+/// Takes the next line. The list is room for arguments.
+fn accept(
+    draft: &mut Draft,
+    alloc: Global,
+    room: &mut List<NamedArg>,
+    line: &[u8],
+) -> Result<(), LineError>
+    requires { Bounds draft.old }
+    ensures { Gives (λ _. draft.new) result (reading.accept draft.old line.now) }
+{
+    let taken = accept_in_place(draft, room, line)?;
+    if taken {
+        return Ok(());
+    }
+    accept_tokens(draft, alloc, line)
 }
 
 /// The document that the bytes are, or the first line that is refused, from 1, and its first cause.
@@ -64,11 +83,12 @@ pub fn parse_document(alloc: Global, bytes: &[u8]) -> Result<Document, ParseErro
     ensures formed { IfOk result (λ d. IsWellFormedDocument d) }
 {
     let mut draft = Draft::new(alloc);
+    let mut room = List::new(alloc);
     let mut rest = bytes;
     let mut number = 1u32;
     'lines: while !rest.is_empty() {
         let (line, others) = split_line(rest);
-        match accept(&mut draft, alloc, line) {
+        match accept(&mut draft, alloc, &mut room, line) {
             Ok(()) => {}
             Err(error) => return Err(at_line(number, error)),
         }

@@ -6,18 +6,21 @@ ghost use Rattle.scenario_text.specs.Requests as requests;
 
 use ind_base::{Span, Spans};
 use scenario_lines::NamedArg;
-use spec_language::{has_name, place_of, size_at};
+use spec_language::{is_placed, place_of, size_at};
 use spec_model::{Inst, Op, Sort, Var};
 
-#[tactic(auto, unfolding(crate::specs::Requests::is_op))]
-pub(crate) fn is_op(ops: &[Op], name: &[u8]) -> bool
+/// Whether the place that was found for a name is that of an operation.
+#[tactic(auto, unfolding(crate::specs::Requests::is_op, crate::specs::Requests::op_place))]
+pub(crate) fn is_op(ops: &[Op], name: &[u8], place: u32) -> bool
+    requires { place ≡ requests.op_place ops.now name.now }
     ensures { result ≡ requests.is_op ops.now name.now }
 {
-    has_name(ops, name)
+    is_placed(ops, name, place)
 }
 
+/// The place of an operation by its name. It is looked for once for each request.
 #[tactic(auto, unfolding(crate::specs::Requests::op_place))]
-fn op_place(ops: &[Op], name: &[u8]) -> u32
+pub(crate) fn op_place(ops: &[Op], name: &[u8]) -> u32
     requires { length ops.now ≤ 64 }
     ensures { result ≡ requests.op_place ops.now name.now }
 {
@@ -142,35 +145,45 @@ fn spans_of(args: &[NamedArg]) -> Spans
     spans
 }
 
-/// Whether the arguments are of the operation's number and kinds.
+/// Whether the arguments are of the number and kinds of the operation at this place.
 #[tactic(auto, unfolding(crate::specs::Requests::request_fits))]
-pub(crate) fn request_fits(ops: &[Op], op: &[u8], args: &[NamedArg]) -> bool
-    requires { length ops.now ≤ 64 }
+pub(crate) fn request_fits(ops: &[Op], op: &[u8], place: u32, args: &[NamedArg]) -> bool
+    requires { place ≡ requests.op_place ops.now op.now }
     ensures { result ≡ requests.request_fits ops.now op.now args.now }
 {
-    args.len() <= 4 && args_fit(params_at(ops, op_place(ops, op)), args)
+    let _op = op;
+    args.len() <= 4 && args_fit(params_at(ops, place), args)
 }
 
 /// Whether all arguments are elements.
 #[tactic(auto, unfolding(crate::specs::Requests::request_within))]
-pub(crate) fn request_within(sorts: &[Sort], ops: &[Op], op: &[u8], args: &[NamedArg]) -> bool
-    requires { length ops.now ≤ 64 }
+pub(crate) fn request_within(
+    sorts: &[Sort],
+    ops: &[Op],
+    op: &[u8],
+    place: u32,
+    args: &[NamedArg],
+) -> bool
+    requires { place ≡ requests.op_place ops.now op.now }
     ensures { result ≡ requests.request_within sorts.now ops.now op.now args.now }
 {
-    are_ordered(args) && args_within(sorts, params_at(ops, op_place(ops, op)), args)
+    let _op = op;
+    are_ordered(args) && args_within(sorts, params_at(ops, place), args)
 }
 
 /// The operation at arguments that fit and are elements.
 #[tactic(auto, unfolding(crate::specs::Requests::inst_of, crate::specs::Requests::request_fits, crate::specs::Requests::request_within))]
-pub(crate) fn inst_of(sorts: &[Sort], ops: &[Op], op: &[u8], args: &[NamedArg]) -> Inst
-    requires ops { length ops.now ≤ 64 }
+pub(crate) fn inst_of(sorts: &[Sort], ops: &[Op], op: &[u8], place: u32, args: &[NamedArg]) -> Inst
+    requires place { place ≡ requests.op_place ops.now op.now }
     requires fits { requests.request_fits ops.now op.now args.now ≡ true }
     requires within { requests.request_within sorts.now ops.now op.now args.now ≡ true }
     ensures { result ≡ requests.inst_of ops.now op.now args.now }
 {
     let _sorts = sorts;
+    let _ops = ops;
+    let _op = op;
     Inst {
-        op: op_place(ops, op),
+        op: place,
         args: spans_of(args),
     }
 }
