@@ -1,6 +1,6 @@
 //! Lines of a schedule, which are many, read where they stand: no list of tokens is made, and no name
-//! is copied. What isn't read so, since it is no such line or has a number past its limit, is left to
-//! the forms.
+//! is copied. What isn't read so, since it is no such line, has a number past its limit or too many
+//! arguments, is left to the forms.
 
 ghost use Rattle.std.specs.Prelude.{◌≡◌, [], IfSome, IfOk};
 ghost use Rattle.scenario_lines.specs.Forms as forms;
@@ -11,6 +11,10 @@ use crate::argument::NamedArg;
 use crate::line::RunLine;
 use ind_base::{List, NoMemory};
 use line_text::{mark_next, none_next, number_next, word_next};
+
+/// The most arguments that are read in place. No operation takes more of them, and a line of very many
+/// is not to be held twice.
+const MOST_ARGS: usize = 4;
 
 /// The argument that stands next, and the bytes behind it.
 fn arg_next(bytes: &[u8]) -> Option<(NamedArg, &[u8])>
@@ -32,7 +36,7 @@ fn items_next<'a>(args: &mut List<NamedArg>, bytes: &'a [u8]) -> Result<Option<&
     ensures { IfOk result (λ o. IfSome o (λ rest. IsItemsRead args.new bytes.now rest.now)) }
 {
     let mut rest = bytes;
-    for _turn in 0..bytes.len() {
+    for _turn in 0..MOST_ARGS {
         let Some((arg, behind)) = arg_next(rest) else {
             return Ok(None);
         };
