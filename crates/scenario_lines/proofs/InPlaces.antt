@@ -14,8 +14,8 @@ use Rattle.scenario_lines.specs.declared.argument.NamedArg.{NamedArg}
 use Rattle.scenario_lines.specs.declared.argument.NamedArg.TheVariants as args
 use Rattle.scenario_lines.specs.declared.line.RunLine.TheVariants as lines
 use Rattle.scenario_lines.specs.Arguments.{arg_item, arg_behind, span_behind}
-use Rattle.scenario_lines.specs.Forms.{do_form, send_form, take_form}
-use Rattle.scenario_lines.specs.InPlace.{are_modest, ahead, arg_tokens, IsArgNext, IsItemsRead, IsListRead, IsRead}
+use Rattle.scenario_lines.specs.Forms.{number_alone, do_form, send_form, take_form, ask_behind, ask_form}
+use Rattle.scenario_lines.specs.InPlace.{are_modest, ahead, arg_tokens, IsArgNext, IsItemsRead, IsListRead, IsRead, IsRequestRead}
 
 number_modest : (n : ℕ) (ts : List Token) → n ≤ 1000000000000 → are_modest ts ≡ true → are_modest (Number n ∷ ts) ≡ true
 number_modest n ts small modest = rw (le-leb n 1000000000000 small, modest) refl
@@ -169,17 +169,34 @@ list_some xs bytes rest behind first h =
 
 -- ---- lines
 
-pub do_read : (replica : ℕ) (op : List ℕ) (xs : List NamedArg) (bytes rest middle behind : List ℕ) → IsNext (Number replica) bytes rest → replica ≤ 1000000000000 → IsNext (Word op) rest middle → IsListRead xs middle behind
-    → tokens_of behind ≡ Some [] → IsRead do_form (lines.Do replica op xs) bytes
+behind_listed : (client : ℕ) (op : List ℕ) (ts : List Token) (xs : List NamedArg) → list_at arg_item ts ≡ Some (xs, []) → ask_behind client op ts ≡ Some (lines.AskDo client op xs)
+unfolding ask_behind ended
+behind_listed client op [] xs e = absurd (none_there (xs, []) e)
+behind_listed client op (t ∷ ts) xs e = rw e refl
+
+do_formed : (n : ℕ) (op : List ℕ) (ts : List Token) (xs : List NamedArg) → list_at arg_item ts ≡ Some (xs, []) → do_form (Number n ∷ Word op ∷ ts) ≡ Some (lines.Do n op xs)
 unfolding do_form number_at word_at ended
-do_read replica op xs bytes rest middle behind first small second h none =
+do_formed n op ts xs e = rw e refl
+
+ask_formed : (n : ℕ) (op : List ℕ) (ts : List Token) (xs : List NamedArg) → list_at arg_item ts ≡ Some (xs, []) → ask_form (Number n ∷ Word op ∷ ts) ≡ Some (lines.AskDo n op xs)
+unfolding ask_form number_at word_at
+ask_formed n op ts xs e = behind_listed n op ts xs e
+
+pub request_read : (n : ℕ) (op : List ℕ) (xs : List NamedArg) (bytes rest middle behind : List ℕ) → IsNext (Number n) bytes rest → n ≤ 1000000000000 → IsNext (Word op) rest middle → IsListRead xs middle behind
+    → tokens_of behind ≡ Some [] → IsRequestRead n op xs bytes
+request_read n op xs bytes rest middle behind first small second h none =
     let listed : list_at arg_item h.tokens ≡ Some (xs, []) = ap (list_at arg_item) (sym (append-nil h.tokens)) ∙ h.formed [] in
-    record {
-      tokens = Number replica ∷ Word op ∷ h.tokens;
-      read = first ∙ ap (before (Some (Number replica))) (second ∙ ap (before (Some (Word op))) (h.read ∙ ap (ahead h.tokens) none)) ∙ ap (λ (us : List Token). Some (Number replica ∷ Word op ∷ us)) (append-nil h.tokens);
-      modest = number_modest replica (Word op ∷ h.tokens) small h.modest;
-      formed = rw listed refl;
-    }
+    let read : tokens_of bytes ≡ Some (Number n ∷ Word op ∷ h.tokens)
+    = first ∙ ap (before (Some (Number n))) (second ∙ ap (before (Some (Word op))) (h.read ∙ ap (ahead h.tokens) none)) ∙ ap (λ (us : List Token). Some (Number n ∷ Word op ∷ us)) (append-nil h.tokens) in
+    let modest = number_modest n (Word op ∷ h.tokens) small h.modest in (
+      record { tokens = Number n ∷ Word op ∷ h.tokens; read = read; modest = modest; formed = do_formed n op h.tokens xs listed },
+      record { tokens = Number n ∷ Word op ∷ h.tokens; read = read; modest = modest; formed = ask_formed n op h.tokens xs listed },
+    )
+
+pub number_read : (n : ℕ) (bytes behind : List ℕ) → IsNext (Number n) bytes behind → n ≤ 1000000000000 → tokens_of behind ≡ Some [] → IsRead number_alone n bytes
+unfolding number_alone number_at ended
+number_read n bytes behind first small none =
+    record { tokens = Number n ∷ []; read = first ∙ ap (before (Some (Number n))) none; modest = number_modest n [] small refl; formed = refl }
 
 pub send_read : (replica peer : ℕ) (bytes rest behind : List ℕ) → IsNext (Number replica) bytes rest → replica ≤ 1000000000000 → IsNext (Number peer) rest behind → peer ≤ 1000000000000
     → tokens_of behind ≡ Some [] → IsRead send_form (lines.Send replica peer) bytes

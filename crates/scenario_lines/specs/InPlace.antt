@@ -8,7 +8,9 @@ use Rattle.line_text.specs.Forms.{items, list_at}
 use Rattle.line_text.specs.Tokens.{tokens_of, is_within}
 use Rattle.scenario_lines.specs.declared.argument.NamedArg.{NamedArg}
 use Rattle.scenario_lines.specs.declared.argument.NamedArg.TheVariants as args
+use Rattle.scenario_lines.specs.declared.line.RunLine.TheVariants as lines
 use Rattle.scenario_lines.specs.Arguments.{arg_item}
+use Rattle.scenario_lines.specs.Forms.{do_form, ask_form}
 
 -- no number is past the limit of most places
 abbrev pub are_modest : List Token → Bool
@@ -51,3 +53,7 @@ IsItemsRead xs bytes behind = StandFirst (items arg_item) xs bytes behind
 -- arguments in brackets
 abbrev pub IsListRead : List NamedArg → List ℕ → List ℕ → Type 0
 IsListRead xs bytes behind = StandFirst (list_at arg_item) xs bytes behind
+
+-- a request stands there, of a replica or of a client
+abbrev pub IsRequestRead : ℕ → List ℕ → List NamedArg → List ℕ → Type 0
+IsRequestRead n op xs bytes = IsRead do_form (lines.Do n op xs) bytes × IsRead ask_form (lines.AskDo n op xs) bytes

@@ -4,8 +4,7 @@
 
 ghost use Rattle.std.specs.Prelude.{◌≡◌, [], IfSome, IfOk};
 ghost use Rattle.scenario_lines.specs.Forms as forms;
-ghost use Rattle.scenario_lines.specs.InPlace.{IsArgNext, IsItemsRead, IsListRead, IsRead};
-ghost use Rattle.scenario_lines.specs.declared.line.RunLine.TheVariants as lines;
+ghost use Rattle.scenario_lines.specs.InPlace.{IsArgNext, IsItemsRead, IsListRead, IsRead, IsRequestRead};
 
 use crate::argument::NamedArg;
 use crate::line::RunLine;
@@ -69,14 +68,14 @@ fn args_next<'a>(args: &mut List<NamedArg>, bytes: &'a [u8]) -> Result<Option<&'
     Ok(Some(behind))
 }
 
-/// `R NAME(ARG,ARG)` behind `do`: the replica and the name, with the arguments in the list.
-pub fn do_in_place<'a>(
+/// `N NAME(ARG,ARG)` behind `do` or `ask`: the number and the name, with the arguments in the list.
+pub fn request_in_place<'a>(
     args: &mut List<NamedArg>,
     bytes: &'a [u8],
 ) -> Result<Option<(u64, &'a [u8])>, NoMemory>
-    ensures { IfOk result (λ o. IfSome o (λ x. IsRead forms.do_form (lines.Do x.0 x.1.now args.new) bytes.now)) }
+    ensures { IfOk result (λ o. IfSome o (λ x. IsRequestRead x.0 x.1.now args.new bytes.now)) }
 {
-    let Some((replica, rest)) = number_next(bytes) else {
+    let Some((n, rest)) = number_next(bytes) else {
         return Ok(None);
     };
     let Some((op, rest)) = word_next(rest) else {
@@ -86,10 +85,18 @@ pub fn do_in_place<'a>(
         return Ok(None);
     };
     if none_next(rest) {
-        Ok(Some((replica, op)))
+        Ok(Some((n, op)))
     } else {
         Ok(None)
     }
+}
+
+/// The number alone behind `crash` or `recover`.
+pub fn number_in_place(bytes: &[u8]) -> Option<u64>
+    ensures { IfSome result (λ n. IsRead forms.number_alone n bytes.now) }
+{
+    let (n, rest) = number_next(bytes)?;
+    if none_next(rest) { Some(n) } else { None }
 }
 
 /// `R PEER` behind `send`.

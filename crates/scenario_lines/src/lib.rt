@@ -9,6 +9,6 @@ mod printing;
 
 pub use argument::NamedArg;
 pub use forms::run_line_of;
-pub use in_place::{do_in_place, send_in_place, take_in_place};
+pub use in_place::{number_in_place, request_in_place, send_in_place, take_in_place};
 pub use line::RunLine;
 pub use printing::{put_request, put_run_line};

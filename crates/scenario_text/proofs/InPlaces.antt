@@ -18,10 +18,10 @@ use Rattle.spec_lines.specs.Forms.{spec_line, free_form}
 use Rattle.scenario_lines.specs.declared.argument.NamedArg.{NamedArg}
 use Rattle.scenario_lines.specs.declared.line.RunLine.{RunLine}
 use Rattle.scenario_lines.specs.declared.line.RunLine.TheVariants as lines
-use Rattle.scenario_lines.specs.Forms.{run_line, do_form, send_form, take_form}
-use Rattle.scenario_lines.specs.InPlace.{are_modest, IsRead}
+use Rattle.scenario_lines.specs.Forms.{run_line, number_alone, do_form, send_form, take_form, crash_form, recover_form, ask_form}
+use Rattle.scenario_lines.specs.InPlace.{are_modest, IsRead, IsRequestRead}
 use Rattle.scenario_text.specs.declared.draft.Draft.{Draft}
-use Rattle.scenario_text.specs.Draft.{take_spec, take_do, run_step}
+use Rattle.scenario_text.specs.Draft.{take_spec, take_do, take_request, run_step}
 use Rattle.scenario_text.specs.Reading.{accept, taken}
 use Rattle.scenario_text.specs.InPlace.{IsAnswered, IsTaken, IsAccepted}
 
@@ -30,6 +30,18 @@ use Rattle.scenario_text.specs.InPlace.{IsAnswered, IsTaken, IsAccepted}
 do_taken : (d : Draft) (ts : List Token) (line : RunLine) → do_form ts ≡ Some line → taken d (Word (codes "do") ∷ ts) ≡ run_step d line
 unfolding taken spec_line run_line
 do_taken d ts line is = rw is refl
+
+ask_taken : (d : Draft) (ts : List Token) (line : RunLine) → ask_form ts ≡ Some line → taken d (Word (codes "ask") ∷ ts) ≡ run_step d line
+unfolding taken spec_line run_line
+ask_taken d ts line is = rw is refl
+
+crash_taken : (d : Draft) (ts : List Token) (n : ℕ) → number_alone ts ≡ Some n → taken d (Word (codes "crash") ∷ ts) ≡ run_step d (lines.Crash n)
+unfolding taken spec_line run_line crash_form
+crash_taken d ts n is = rw is refl
+
+recover_taken : (d : Draft) (ts : List Token) (n : ℕ) → number_alone ts ≡ Some n → taken d (Word (codes "recover") ∷ ts) ≡ run_step d (lines.Recover n)
+unfolding taken spec_line run_line recover_form
+recover_taken d ts n is = rw is refl
 
 send_taken : (d : Draft) (ts : List Token) (line : RunLine) → send_form ts ≡ Some line → taken d (Word (codes "send") ∷ ts) ≡ run_step d line
 unfolding taken spec_line run_line
@@ -47,9 +59,23 @@ do_step : (d : Draft) (replica : ℕ) (op : List ℕ) (xs : List NamedArg) → r
 unfolding run_step
 do_step d replica op xs = refl
 
-pub do_answered : (d : Draft) (replica : ℕ) (op : List ℕ) (xs : List NamedArg) (bytes : List ℕ) (answer : Result Draft Cause) → IsRead do_form (lines.Do replica op xs) bytes → take_do d replica op xs ≡ answer → IsAnswered d (codes "do") bytes answer
+ask_step : (d : Draft) (client : ℕ) (op : List ℕ) (xs : List NamedArg) → run_step d (lines.AskDo client op xs) ≡ take_request d client op xs
+unfolding run_step
+ask_step d client op xs = refl
+
+pub ask_answered : (d : Draft) (client : ℕ) (op : List ℕ) (xs : List NamedArg) (bytes : List ℕ) (answer : Result Draft Cause) → IsRequestRead client op xs bytes → take_request d client op xs ≡ answer → IsAnswered d (codes "ask") bytes answer
+ask_answered d client op xs bytes answer h is =
+    record { tokens = h.1.tokens; read = h.1.read; modest = h.1.modest; no_stop = refl; gives = ask_taken d h.1.tokens (lines.AskDo client op xs) h.1.formed ∙ ask_step d client op xs ∙ is }
+
+pub crash_answered : (d : Draft) (n : ℕ) (bytes : List ℕ) (answer : Result Draft Cause) → IsRead number_alone n bytes → run_step d (lines.Crash n) ≡ answer → IsAnswered d (codes "crash") bytes answer
+crash_answered d n bytes answer h is = record { tokens = h.tokens; read = h.read; modest = h.modest; no_stop = refl; gives = crash_taken d h.tokens n h.formed ∙ is }
+
+pub recover_answered : (d : Draft) (n : ℕ) (bytes : List ℕ) (answer : Result Draft Cause) → IsRead number_alone n bytes → run_step d (lines.Recover n) ≡ answer → IsAnswered d (codes "recover") bytes answer
+recover_answered d n bytes answer h is = record { tokens = h.tokens; read = h.read; modest = h.modest; no_stop = refl; gives = recover_taken d h.tokens n h.formed ∙ is }
+
+pub do_answered : (d : Draft) (replica : ℕ) (op : List ℕ) (xs : List NamedArg) (bytes : List ℕ) (answer : Result Draft Cause) → IsRequestRead replica op xs bytes → take_do d replica op xs ≡ answer → IsAnswered d (codes "do") bytes answer
 do_answered d replica op xs bytes answer h is =
-    record { tokens = h.tokens; read = h.read; modest = h.modest; no_stop = refl; gives = do_taken d h.tokens (lines.Do replica op xs) h.formed ∙ do_step d replica op xs ∙ is }
+    record { tokens = h.0.tokens; read = h.0.read; modest = h.0.modest; no_stop = refl; gives = do_taken d h.0.tokens (lines.Do replica op xs) h.0.formed ∙ do_step d replica op xs ∙ is }
 
 pub send_answered : (d : Draft) (line : RunLine) (bytes : List ℕ) (answer : Result Draft Cause) → IsRead send_form line bytes → run_step d line ≡ answer → IsAnswered d (codes "send") bytes answer
 send_answered d line bytes answer h is = record { tokens = h.tokens; read = h.read; modest = h.modest; no_stop = refl; gives = send_taken d h.tokens line h.formed ∙ is }

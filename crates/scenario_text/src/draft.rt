@@ -351,7 +351,12 @@ impl Draft {
     }
 
     #[tactic(auto, unfolding(crate::specs::Draft::take_request))]
-    fn take_request(&mut self, client: u64, op: &[u8], args: &[NamedArg]) -> Result<(), LineError>
+    pub(crate) fn take_request(
+        &mut self,
+        client: u64,
+        op: &[u8],
+        args: &[NamedArg],
+    ) -> Result<(), LineError>
         requires ops { length self.old.spec.spec.ops ≤ 64 }
         requires turns { self.old.turns ≤ 10000 }
         requires replicas { self.old.replicas ≤ 8 }
