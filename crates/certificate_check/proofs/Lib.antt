@@ -18,3 +18,4 @@ pub mod Retaken
 pub mod ReadAgain
 pub mod Completed
 pub mod FirstRefused
+pub mod Kept

@@ -8,3 +8,4 @@ pub mod Fitting
 pub mod Draft
 pub mod Reading
 pub mod Texts
+pub mod Falses

@@ -3,6 +3,7 @@
 
 mod certificate;
 mod draft;
+mod falses;
 mod fitting;
 mod judge;
 mod laws;

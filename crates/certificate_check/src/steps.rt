@@ -8,6 +8,7 @@ ghost use Rattle.certificate_check.specs.Checks as checks;
 ghost use Rattle.certificate_check.specs.Turns as turns;
 ghost use Rattle.certificate_check.specs.Turns.{steps_lits};
 
+use crate::falses::Falses;
 use crate::verdict::Why;
 use ground_clauses::{Lit, Step};
 use ind_base::{List, NoMemory};
@@ -32,14 +33,6 @@ enum Turn {
     Goes(Lit),
 }
 
-/// Whether two literals are one.
-#[tactic(auto, using(crate::proofs::Hints::same_signs))]
-fn same(first: &Lit, second: &Lit) -> bool
-    ensures { result ≡ derivations.same_num first.now second.now }
-{
-    first.var == second.var && first.yes == second.yes
-}
-
 /// The literal's denial.
 fn opposite_of(lit: &Lit) -> Lit
     ensures { result ≡ derivations.opposite_num lit.now }
@@ -50,25 +43,13 @@ fn opposite_of(lit: &Lit) -> Lit
     }
 }
 
-/// Whether a literal is among the false ones.
-fn among(falses: &[Lit], lit: &Lit) -> bool
-    ensures { result ≡ list_any (derivations.same_num lit.now) falses.now }
-{
-    for other in falses {
-        if same(lit, other) {
-            return true;
-        }
-    }
-    false
-}
-
 /// What a clause has left, without the false literals.
-fn rest_of(falses: &[Lit], clause: &[Lit]) -> Rest
+fn rest_of(falses: &Falses, clause: &[Lit]) -> Rest
     ensures { result ≡ turns.rest_of (derivations.undecided falses.now clause.now) }
 {
     let mut found = Rest::Nothing;
     for lit in clause {
-        if !among(falses, lit) {
+        if !falses.has(lit) {
             match found {
                 Rest::Nothing => found = Rest::One(*lit),
                 _ => return Rest::Many,
@@ -79,7 +60,7 @@ fn rest_of(falses: &[Lit], clause: &[Lit]) -> Rest
 }
 
 /// What a hint at this clause does.
-fn turn_at(clause: &[Lit], last: bool, falses: &[Lit]) -> Turn
+fn turn_at(clause: &[Lit], last: bool, falses: &Falses) -> Turn
     ensures { result ≡ turns.turn_at last falses.now (turns.rest_of (derivations.undecided falses.now clause.now)) }
 {
     match rest_of(falses, clause) {
@@ -87,7 +68,7 @@ fn turn_at(clause: &[Lit], last: bool, falses: &[Lit]) -> Turn
         Rest::Many => Turn::Ends(false),
         Rest::One(lit) => {
             let made_false = opposite_of(&lit);
-            if last || among(falses, &made_false) {
+            if last || falses.has(&made_false) {
                 Turn::Ends(false)
             } else {
                 Turn::Goes(made_false)
@@ -98,7 +79,13 @@ fn turn_at(clause: &[Lit], last: bool, falses: &[Lit]) -> Turn
 
 /// What a hint does. Hints number the clauses and then the earlier steps.
 #[tactic(auto, using(crate::proofs::Hints::row_front, crate::proofs::Hints::row_step, crate::proofs::Hints::row_end))]
-fn hint_turn(clauses: &[List<Lit>], earlier: &[Step], hint: u32, last: bool, falses: &[Lit]) -> Turn
+fn hint_turn(
+    clauses: &[List<Lit>],
+    earlier: &[Step],
+    hint: u32,
+    last: bool,
+    falses: &Falses,
+) -> Turn
     ensures { result ≡ turns.turn_of last falses.now (slice_get (clauses.now ++ steps_lits earlier.now) hint) }
 {
     let place = hint as usize;
@@ -119,7 +106,7 @@ fn propagates(
     clauses: &[List<Lit>],
     earlier: &[Step],
     hints: &[u32],
-    falses: List<Lit>,
+    falses: Falses,
 ) -> Result<bool, NoMemory>
     ensures { IfOk result (λ yes. yes ≡ derivations.propagates (clauses.now ++ steps_lits earlier.now) hints.now falses) }
 {
@@ -127,15 +114,9 @@ fn propagates(
     let mut left = hints;
     'hinting: while !left.is_empty() {
         let (head, tail) = left.split_at(1);
-        match hint_turn(
-            clauses,
-            earlier,
-            head[0],
-            tail.is_empty(),
-            falses.as_slice(),
-        ) {
+        match hint_turn(clauses, earlier, head[0], tail.is_empty(), &falses) {
             Turn::Ends(yes) => return Ok(yes),
-            Turn::Goes(lit) => falses.push(lit)?,
+            Turn::Goes(lit) => falses = falses.with_lit(lit)?,
         }
         left = tail;
     }
@@ -208,7 +189,8 @@ fn is_right(
     if repeats(alloc, step.lits.as_slice())? {
         return Ok(false);
     }
-    let falses = step.lits.copy(alloc)?;
+    let many = step.lits.len() > FEW || step.hints.len() > FEW;
+    let falses = Falses::of(alloc, step.lits.as_slice(), many)?;
     propagates(clauses, earlier, step.hints.as_slice(), falses)
 }
 

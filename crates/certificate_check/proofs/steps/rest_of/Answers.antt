@@ -6,4 +6,4 @@ pub returns-in_default : goal.returns-in_default
 returns-in_default c =
     sym (many_left c.args.falses.now c.args.clause.now c.loop-lit.lit-index _ c.loop-lit-test.true
     (λ none. c.in_default.not-Nothing (c.loop-lit.invariant ∙ none))
-    (sym c.among.ensures ∙ c.if-not-among.true))
+    (sym c.has.ensures ∙ c.if-not-has.true))
