@@ -1,5 +1,5 @@
 -- Instances of clauses at classes, as they are looked for.
-use Rattle.std.specs.Prelude.{ℕ, Bool, false, ◌&&◌, not, if◌then◌else◌, List, [], ◌∷◌, ◌++◌, map, filter}
+use Rattle.std.specs.Prelude.{ℕ, Bool, false, ◌&&◌, not, if◌then◌else◌, eqb, List, [], ◌∷◌, ◌++◌, map, filter}
 use Rattle.std.specs.List.{list_any, flat_map}
 use Rattle.ground_clauses.specs.Cases.{assignments, class_count, equalities_true, over, sorts_of}
 use Rattle.ground_clauses.specs.Query.{Hypothesis, atom_of, instance_atoms, literal_atoms, same_atom}
@@ -23,6 +23,11 @@ atoms_at cs ls = flat_map (literal_atoms cs) ls
 abbrev pub is_shared : List ClassAtom → List ℕ → Literal → Bool
 is_shared atoms cs (Atom p vars) = list_any (same_atom (atom_of p (values cs vars))) atoms
 is_shared atoms cs (Equal l r) = false
+
+-- an atom whose predicate is that of one of these
+abbrev pub names_pred : List ClassAtom → Literal → Bool
+names_pred atoms (Atom p vars) = list_any (λ a. eqb p a.pred) atoms
+names_pred atoms (Equal l r) = false
 
 -- one of these atoms is the clause's, and its equalities don't make it true
 abbrev pub meets : List ClassAtom → Hypothesis → Bool

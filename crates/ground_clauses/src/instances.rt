@@ -1,20 +1,20 @@
 //! The hypotheses of a query: the clauses at classes that meet its target.
 
-ghost use Rattle.std.specs.Prelude.{◌≡◌, ◌<◌, ◌≤◌, ◌+◌, ◌++◌, ◌&&◌, length, map, filter, IfOk, OnOk, OnErr};
+ghost use Rattle.std.specs.Prelude.{◌≡◌, ◌<◌, ◌≤◌, ◌+◌, ◌++◌, ◌&&◌, ◌||◌, length, map, filter, IfOk, OnOk, OnErr};
 ghost use Rattle.std.specs.List.{list_any, flat_map, AllByRecursion};
 ghost use Rattle.spec_model.specs.Fits.{IsWellFormed};
 ghost use Rattle.spec_model.specs.Truths as truths;
 ghost use Rattle.ground_clauses.specs.Cases as cases;
 ghost use Rattle.ground_clauses.specs.Cases.{CaseKnown};
-ghost use Rattle.ground_clauses.specs.Instances.{atoms_at, clause_instances, found_from, instance_of, is_shared, meets, with_all, with_one};
+ghost use Rattle.ground_clauses.specs.Instances.{atoms_at, clause_instances, found_from, instance_of, is_shared, meets, names_pred, with_all, with_one};
 ghost use Rattle.ground_clauses.specs.Query as queries;
 
 use crate::case::Case;
-use crate::literals::same_atom;
+use crate::literals::{is_at, same_atom};
 use crate::pattern::{class_count, pattern_sorts};
 use crate::places::clause_at;
 use crate::slots::Slots;
-use crate::touched::{class_at, equalities_true, target_classes, values};
+use crate::touched::{equalities_true, target_classes, values};
 use ind_base::{List, NoMemory};
 use spec_model::{Args, Atom, Clause, Literal, Spec, Var};
 
@@ -76,30 +76,12 @@ fn add_clause_atoms(
     Ok(())
 }
 
-/// Whether an atom's arguments are the classes of these variables.
-#[tactic(auto, using(crate::proofs::Building::map_step, crate::proofs::Parts::values_end))]
-fn same_values(classes: &[u32], vars: &[u32], args: &[u32]) -> bool
-    ensures { result ≡ queries.same_list (truths.values classes.now vars.now) args.now }
-{
-    let mut left = args;
-    for var in vars {
-        let [class, rest @ ..] = left else {
-            return false;
-        };
-        if class_at(classes, *var) != *class {
-            return false;
-        }
-        left = rest;
-    }
-    left.is_empty()
-}
-
 /// Whether the predicate's atom at the classes of these variables is among these.
 fn values_among(pred: u32, classes: &[u32], vars: &[u32], atoms: &[Atom]) -> bool
     ensures { result ≡ list_any (queries.same_atom (queries.atom_of pred (truths.values classes.now vars.now))) atoms.now }
 {
     for other in atoms {
-        if pred == other.pred && same_values(classes, vars, other.args.as_slice()) {
+        if is_at(other, pred, classes, vars) {
             return true;
         }
     }
@@ -178,8 +160,44 @@ fn add_instances<'a>(
     Ok(())
 }
 
+/// Whether a literal's predicate is that of one of these atoms.
+fn has_pred(atoms: &[Atom], literal: &Literal) -> bool
+    ensures { result ≡ names_pred atoms.now literal.now }
+{
+    let Literal::Atom { pred, .. } = literal else {
+        return false;
+    };
+    for atom in atoms {
+        if *pred == atom.pred {
+            return true;
+        }
+    }
+    false
+}
+
+/// Whether the predicate of some of these literals is that of one of the atoms.
+fn has_any_pred(atoms: &[Atom], literals: &[Literal]) -> bool
+    ensures { result ≡ list_any (names_pred atoms.now) literals.now }
+{
+    for literal in literals {
+        if has_pred(atoms, literal) {
+            return true;
+        }
+    }
+    false
+}
+
+/// Whether the clause and these atoms have a predicate in common: else none of its instances meets
+/// them.
+fn may_meet(atoms: &[Atom], clause: &Clause) -> bool
+    ensures { result ≡ (list_any (names_pred atoms.now) clause.now.premise || list_any (names_pred atoms.now) clause.now.conclusion) }
+{
+    has_any_pred(atoms, clause.premise.as_slice())
+        || has_any_pred(atoms, clause.conclusion.as_slice())
+}
+
 /// Appends the instances of a clause that meet the target.
-#[tactic(auto, using(crate::proofs::Finding::found_clause))]
+#[tactic(auto, using(crate::proofs::Finding::found_clause, crate::proofs::Finding::none_found))]
 fn add_clause_instances<'a>(
     search: &Search<'_>,
     clause: &'a Clause,
@@ -188,7 +206,9 @@ fn add_clause_instances<'a>(
     requires { length clause.now.vars ≤ 4 }
     ensures { OnOk result (map instance_of found.new ≡ map instance_of found.old ++ clause_instances search.now clause.now) }
 {
-    add_instances(search, clause, Args::new(), clause.vars.as_slice(), found)?;
+    if may_meet(search.target, clause) {
+        add_instances(search, clause, Args::new(), clause.vars.as_slice(), found)?;
+    }
     Ok(())
 }
 

@@ -6,13 +6,14 @@ ghost use Rattle.ground_clauses.specs.Asking.{sets_in};
 ghost use Rattle.ground_clauses.specs.Literals.{clause_forms, signed_forms};
 ghost use Rattle.ground_clauses.specs.Query as queries;
 ghost use Rattle.ground_clauses.specs.Rows as rows;
+ghost use Rattle.spec_model.specs.Truths as truths;
 ghost use Rattle.ground_clauses.specs.Rows.{CanLook, IsNumbered, IsNumberedForm};
 
 use crate::rows::{Looking, Row, Seen, new_row, seen_in};
 use crate::state_lit::{StateLit, Variable};
 use crate::touched::{class_at, values};
 use ind_base::{List, NoMemory};
-use spec_model::{Atom, Clause, Literal, Moment};
+use spec_model::{Args, Atom, Clause, Literal, Moment};
 use std::alloc::Global;
 
 /// Whether two lists of numbers are equal. They are a few numbers long, and a plain loop is the
@@ -39,6 +40,31 @@ pub(crate) fn same_atom(first: &Atom, second: &Atom) -> bool
     ensures { result ≡ queries.same_atom first.now second.now }
 {
     first.pred == second.pred && same_numbers(first.args.as_slice(), second.args.as_slice())
+}
+
+/// Whether an atom's arguments are the classes of these variables.
+#[tactic(auto, using(crate::proofs::Building::map_step, crate::proofs::Parts::values_end))]
+fn same_values(classes: &[u32], vars: &[u32], args: &[u32]) -> bool
+    ensures { result ≡ queries.same_list (truths.values classes.now vars.now) args.now }
+{
+    let mut left = args;
+    for var in vars {
+        let [class, rest @ ..] = left else {
+            return false;
+        };
+        if class_at(classes, *var) != *class {
+            return false;
+        }
+        left = rest;
+    }
+    left.is_empty()
+}
+
+/// Whether an atom is the predicate's at the classes of these variables.
+pub(crate) fn is_at(atom: &Atom, pred: u32, classes: &[u32], vars: &[u32]) -> bool
+    ensures { result ≡ queries.same_atom (queries.atom_of pred (truths.values classes.now vars.now)) atom.now }
+{
+    pred == atom.pred && same_values(classes, vars, atom.args.as_slice())
 }
 
 /// Whether two states are one.
@@ -160,16 +186,29 @@ fn row_form(row: &Row, sign: bool, moment: Moment) -> KnownForm
     }
 }
 
-/// An atom with this truth in a state. Its row stands where the slots say, or is made anew.
+/// The predicate's atom at the classes of these variables, with this truth, in a state. Its row
+/// stands where the slots say, or is made anew.
 #[tactic(auto, using(crate::proofs::Looking::atom_formed, crate::proofs::Looking::atom_numbered, crate::proofs::Apart::row_there, crate::proofs::Apart::atom_same))]
-fn atom_form(looking: &Looking<'_>, moment: Moment, sign: bool, atom: &Atom) -> KnownForm
+fn atom_form(
+    looking: &Looking<'_>,
+    moment: Moment,
+    sign: bool,
+    pred: u32,
+    classes: &[u32],
+    vars: &Args,
+) -> KnownForm
     requires { CanLook looking.now }
-    ensures form { rows.form_of result ≡ queries.atom_form looking.now.asked.spec.now sign atom.now (queries.entry_at looking.now.asked.spec.now (sets_in looking.now.asked) atom.now moment) }
+    ensures form { rows.form_of result ≡ queries.atom_form looking.now.asked.spec.now sign (queries.atom_of pred (truths.values classes.now vars.now)) (queries.entry_at looking.now.asked.spec.now (sets_in looking.now.asked) (queries.atom_of pred (truths.values classes.now vars.now)) moment) }
     ensures number { IsNumberedForm looking.now.asked.variables.now result }
 {
-    match looking.rows.get(looking.slots.hint(atom)) {
-        Some(row) if same_atom(atom, &row.atom) => row_form(row, sign, moment),
-        _ => row_form(&new_row(&looking.asked, atom), sign, moment),
+    let places = vars.as_slice();
+    let near = looking.slots.hint_at(pred, classes, places);
+    match looking.rows.get(near) {
+        Some(row) if is_at(&row.atom, pred, classes, places) => row_form(row, sign, moment),
+        _ => {
+            let args = values(classes, vars);
+            row_form(&new_row(&looking.asked, &Atom { pred, args }), sign, moment)
+        }
     }
 }
 
@@ -186,10 +225,7 @@ pub(crate) fn literal_form(
     ensures number { IsNumberedForm looking.now.asked.variables.now result }
 {
     match literal {
-        Literal::Atom { pred, vars } => {
-            let args = values(classes, vars);
-            atom_form(looking, moment, sign, &Atom { pred: *pred, args })
-        }
+        Literal::Atom { pred, vars } => { atom_form(looking, moment, sign, *pred, classes, vars) }
         Literal::Equal { left, right } => {
             let equal = class_at(classes, *left) == class_at(classes, *right);
             KnownForm::Certain(equal == sign)

@@ -20,13 +20,48 @@ fn class_of(args: &[u32], at: usize) -> usize
     (args.get(at).copied().unwrap_or(0) % 12) as usize
 }
 
-/// A number of its own for each atom with at most three classes below twelve.
+/// A number of its own for each predicate below 64 with three classes below twelve.
+fn code(pred: u32, first: usize, second: usize, third: usize) -> usize
+    requires first { first < 12 }
+    requires second { second < 12 }
+    requires third { third < 12 }
+    ensures { result < 110592 }
+{
+    let pred = (pred % 64) as usize;
+    ((pred * 12 + first) * 12 + second) * 12 + third
+}
+
+/// The number of an atom, by its first three classes.
 fn code_of(atom: &Atom) -> usize
     ensures { result < 110592 }
 {
     let args = atom.args.as_slice();
-    let pred = (atom.pred % 64) as usize;
-    ((pred * 12 + class_of(args, 0)) * 12 + class_of(args, 1)) * 12 + class_of(args, 2)
+    code(
+        atom.pred,
+        class_of(args, 0),
+        class_of(args, 1),
+        class_of(args, 2),
+    )
+}
+
+/// The class of the variable at this place of these.
+fn class_in(classes: &[u32], vars: &[u32], at: usize) -> usize
+    ensures { result < 12 }
+{
+    match vars.get(at) {
+        Some(var) => class_of(classes, *var as usize),
+        None => 0,
+    }
+}
+
+/// The number of the predicate's atom at the classes of these variables.
+fn code_at(pred: u32, classes: &[u32], vars: &[u32]) -> usize {
+    code(
+        pred,
+        class_in(classes, vars, 0),
+        class_in(classes, vars, 1),
+        class_in(classes, vars, 2),
+    )
 }
 
 impl Slots {
@@ -40,6 +75,12 @@ impl Slots {
     /// The place that was noted last for the atom, if any was.
     pub(crate) fn hint(&self, atom: &Atom) -> usize {
         self.places.get(code_of(atom)).copied().unwrap_or(0)
+    }
+
+    /// The place that was noted last for the predicate's atom at the classes of these variables.
+    pub(crate) fn hint_at(&self, pred: u32, classes: &[u32], vars: &[u32]) -> usize {
+        let code = code_at(pred, classes, vars);
+        self.places.get(code).copied().unwrap_or(0)
     }
 
     /// Notes the place of an atom.
