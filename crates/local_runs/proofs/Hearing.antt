@@ -23,7 +23,7 @@ pub from_peer : (setup : Setup) (me : ℕ) (ask : Ask) (running : Running) (hand
 from_peer setup me (asks.Do inst) running hand m fits in_hand is = absurd (no_message hand m in_hand is)
 from_peer setup me (asks.Send to number) running hand m fits in_hand is = absurd (no_message hand m in_hand is)
 from_peer setup me (asks.Take from None) running hand m fits in_hand is = absurd (no_message hand m in_hand is)
-from_peer setup me (asks.Take from (Some number)) (Down pending) hand m fits in_hand is = absurd (no_message hand m in_hand is)
+from_peer setup me (asks.Take from (Some number)) (Down pending) hand m fits in_hand is = absurd in_hand
 from_peer setup me (asks.Take from (Some number)) Up hand m fits in_hand is =
     let same : in_hand.0 ≡ m = some_same in_hand.0 m (sym in_hand.1 ∙ is) in
     subst (IsPeer setup me) (sym in_hand.2 ∙ ap (λ (x : Message). x.from) same) fits
@@ -38,7 +38,7 @@ pub up_with_one : (ask : Ask) (running : Running) (hand : Option Message) (m : M
 up_with_one (asks.Do inst) running hand m in_hand is = absurd (no_message hand m in_hand is)
 up_with_one (asks.Send to number) running hand m in_hand is = absurd (no_message hand m in_hand is)
 up_with_one (asks.Take from None) running hand m in_hand is = absurd (no_message hand m in_hand is)
-up_with_one (asks.Take from (Some number)) (Down pending) hand m in_hand is = absurd (no_message hand m in_hand is)
+up_with_one (asks.Take from (Some number)) (Down pending) hand m in_hand is = absurd in_hand
 up_with_one (asks.Take from (Some number)) Up hand m in_hand is = refl
 up_with_one asks.Crash running hand m in_hand is = absurd (no_message hand m in_hand is)
 up_with_one asks.Recover running hand m in_hand is = absurd (no_message hand m in_hand is)
@@ -48,7 +48,7 @@ pub hand_is_heard : (links : List (List Sending)) (me : ℕ) (ask : Ask) (runnin
 hand_is_heard links me (asks.Do inst) running hand in_hand sent = ap heard_of in_hand
 hand_is_heard links me (asks.Send to number) running hand in_hand sent = ap heard_of in_hand
 hand_is_heard links me (asks.Take from None) running hand in_hand sent = ap heard_of in_hand
-hand_is_heard links me (asks.Take from (Some number)) (Down pending) hand in_hand sent = ap heard_of in_hand
+hand_is_heard links me (asks.Take from (Some number)) (Down pending) hand in_hand sent = absurd in_hand
 hand_is_heard links me (asks.Take from (Some number)) Up hand in_hand sent =
     let m : Message = in_hand.0 in (
       sending_of m,

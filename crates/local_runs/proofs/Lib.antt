@@ -2,3 +2,4 @@ pub mod Sendings
 pub mod Rising
 pub mod Hearing
 pub mod Together
+pub mod Counted

@@ -1,8 +1,10 @@
 -- Runs of replicas by themselves, and what passed on the links between them.
-use Rattle.std.specs.Prelude.{◌≡◌, ◌≢◌, ℕ, ◌<◌, List, ◌++◌, length, map, Bool, slice_get, Some}
+use Rattle.std.specs.Prelude.{◌≡◌, ◌≢◌, ℕ, ◌<◌, List, ◌++◌, length, map, filter, ◌==◌, Bool, false, slice_get, Some}
 use Rattle.std.specs.List.{AllByRecursion}
 use Rattle.spec_model.specs.declared.plan.Setup.{Setup}
 use Rattle.run_model.specs.declared.message.Message.{Message}
+use Rattle.run_model.specs.declared.step.Ask.{Ask}
+use Rattle.run_model.specs.declared.step.Ask.TheVariants as asks
 use Rattle.run_model.specs.declared.step.StepEntry.{StepEntry}
 use Rattle.run_model.specs.Locals.{Local, first_local}
 use Rattle.run_model.specs.Runs.{entries_at}
@@ -29,3 +31,21 @@ pub record AreAlone (setup : Setup) (ups : List Bool) (taken put : ℕ → ℕ �
   pub each : (me : ℕ) (up : Bool) (l : Local) → slice_get ups me ≡ Some up → slice_get lasts me ≡ Some l → RunsAlone setup me up (taken me) (put me) (entries_at me entries) l
   pub passed : (me from : ℕ) → me < setup.replicas → from < setup.replicas → from ≢ me → IsFront (taken me from) (put from me)
   pub never_full : AllByRecursion (λ e. (to : ℕ) → IsRefused to e → ⊥) entries
+
+-- ---- messages by their entries
+
+abbrev pub is_put : ℕ → Ask → Bool
+is_put to (asks.Send peer (Some number)) = peer == to
+is_put to ask = false
+
+abbrev pub is_got : ℕ → Ask → Bool
+is_got from (asks.Take peer (Some number)) = peer == from
+is_got from ask = false
+
+-- how many messages were put for that replica
+abbrev pub puts_in : ℕ → List StepEntry → ℕ
+puts_in to entries = length (filter (λ e. is_put to e.ask) entries)
+
+-- how many messages of that replica were got
+abbrev pub gots_in : ℕ → List StepEntry → ℕ
+gots_in from entries = length (filter (λ e. is_got from e.ask) entries)

@@ -10,7 +10,7 @@ use Rattle.run_model.specs.declared.step.Outcome.TheVariants as outcomes
 use Rattle.run_model.specs.declared.step.StepEntry.{StepEntry}
 use Rattle.run_model.specs.Locals.{Local, LocalSteps}
 use Rattle.run_model.specs.Steps.{next_stamp}
-use Rattle.run_model.specs.Worlds.{Running, Up, Sending, sent_to}
+use Rattle.run_model.specs.Worlds.{Running, Up, Down, Sending, sent_to}
 use Rattle.message_laws.specs.Heeded.{IsHeededWhole}
 use Rattle.message_laws.specs.Views.{view_in}
 
@@ -24,9 +24,10 @@ abbrev pub heard_of : Option Message → Option Sending
 heard_of None = None
 heard_of (Some message) = Some (sending_of message)
 
--- a take with a number, of a replica that is up, has in hand the message with that number of the replica that it names; all else has none
+-- a take with a number is of a replica that is up and has in hand the message with that number of the replica that it names; all else has none
 abbrev pub IsInHand : Ask → Running → Option Message → Type 0
 IsInHand (asks.Take from (Some number)) Up hand = (message : Message) × (hand ≡ Some message) × (message.from ≡ from) × (message.number ≡ number)
+IsInHand (asks.Take from (Some number)) (Down pending) hand = ⊥
 IsInHand ask running hand = hand ≡ None
 
 -- a message in hand is heeded whole

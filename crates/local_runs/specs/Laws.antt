@@ -1,5 +1,5 @@
 -- Runs of replicas by themselves are one run.
-use Rattle.std.specs.Prelude.{◌≡◌, ℕ, ◌≤◌, List, Bool, slice_get, Some}
+use Rattle.std.specs.Prelude.{◌≡◌, ℕ, ◌≤◌, List, length, Bool, slice_get, Some}
 use Rattle.std.specs.List.{AllByRecursion}
 use Rattle.spec_model.specs.declared.plan.Setup.{Setup}
 use Rattle.run_model.specs.declared.message.Message.{Message}
@@ -8,7 +8,7 @@ use Rattle.run_model.specs.Locals.{Local, StandsIn}
 use Rattle.run_model.specs.Runs.{InOrder, Runs}
 use Rattle.run_model.specs.Sound.{IsSettled}
 use Rattle.run_model.specs.Worlds.{World, first_world}
-use Rattle.local_runs.specs.Alone.{AreAlone, RunsAlone}
+use Rattle.local_runs.specs.Alone.{AreAlone, RunsAlone, gots_in, puts_in}
 
 -- the world of a run, in which the replicas stand so
 pub record AreOneRun (setup : Setup) (ups : List Bool) (entries : List StepEntry) (lasts : List Local) (world : World) : Type 0 where
@@ -24,3 +24,8 @@ AloneIsTogether = (setup : Setup) (ups : List Bool) (taken put : ℕ → ℕ →
 abbrev pub AloneIsInOrder : Type 0
 AloneIsInOrder = (setup : Setup) (me : ℕ) (up : Bool) (taken put : ℕ → List Message) (entries : List StepEntry) (last : Local)
     → RunsAlone setup me up taken put entries last → InOrder entries × AllByRecursion (λ e. e.replica ≡ me) entries
+
+-- a replica by itself has an entry with a number for each message that it put, and for each that it took
+abbrev pub AloneIsCounted : Type 0
+AloneIsCounted = (setup : Setup) (me : ℕ) (up : Bool) (taken put : ℕ → List Message) (entries : List StepEntry) (last : Local)
+    → RunsAlone setup me up taken put entries last → ((to : ℕ) → puts_in to entries ≡ length (put to)) × ((from : ℕ) → gots_in from entries ≡ length (taken from))

@@ -1,6 +1,6 @@
 //! Laws of replicas that run by themselves, for callers to cite.
 
-ghost use Rattle.local_runs.specs.Laws.{AloneIsInOrder, AloneIsTogether};
+ghost use Rattle.local_runs.specs.Laws.{AloneIsCounted, AloneIsInOrder, AloneIsTogether};
 
 /// What replicas did by themselves is one run, where all entries stand in order, and each took from
 /// each link a front of what was put there.
@@ -11,4 +11,9 @@ pub fn alone_is_together()
 /// The entries of a replica by itself stand in order, and are its own.
 pub fn alone_is_in_order()
     ensures { AloneIsInOrder }
+{}
+
+/// A replica by itself has an entry with a number for each message that it put or took.
+pub fn alone_is_counted()
+    ensures { AloneIsCounted }
 {}
