@@ -16,7 +16,7 @@ use Rattle.scenario_text.specs.Reading.{document_of}
 use Rattle.indigo_program.specs.declared.command.Command.{Command}
 use Rattle.indigo_program.specs.declared.command.Command.TheVariants as commands
 use Rattle.request_workers.specs.Histories.{Bays}
-use Rattle.indigo_program.specs.Headline.{Stream, Failed, WasRead, WasBegun, AreKnown, AsksSoak, IsNamed, IsReply, IsSoaked, IsSoakOwed, IsAnswerTo, IsAnswered, IsComplete, IsOwed, IsOwedBy, IsRunAnswer, Makes, Succeeds, input_limit}
+use Rattle.indigo_program.specs.Headline.{Stream, Failed, WasRead, WasBegun, AreKnown, AsksSoak, IsNamed, IsReply, IsSoaked, IsSoakOwed, IsAnswerBy, IsAnswerTo, IsAnswered, IsComplete, IsOwed, IsOwedBy, IsOwedWhere, IsRunAnswer, Makes, Succeeds, input_limit}
 use Rattle.indigo_program.specs.Inputs.{IsInputOf, IsOfClients, Refuses, document_before}
 use Rattle.std.specs.List.{find}
 use Rattle.spec_model.specs.declared.plan.Plan.{Plan}
@@ -49,11 +49,11 @@ keeps_all None = tt
 keeps_all (Some xs) = refl
 
 -- a reply that is written whole, or cut off
-pub finished : (words : List (List ℕ)) (source sink : Stream) (bays : Bays) (status result : ℕ) (text put : List ℕ) → IsReply words source bays status text → put ≡ text
-    → Finishes sink.before sink.after sink.faults_before sink.faults_after put status result → IsAnswered words source sink bays result
-finished words source sink bays status result text put reply is (inl w) =
-    inl (record { text = text; reply = subst (λ n. IsReply words source bays n text) (sym w.0) reply; out = subst (Appends sink.before sink.after) is w.1 })
-finished words source sink bays status result text put reply is (inr w) =
+pub finished_by : (Reply : ℕ → List ℕ → Type 0) (Begun : Type 0) (sink : Stream) (status result : ℕ) (text put : List ℕ) → Reply status text → put ≡ text
+    → Finishes sink.before sink.after sink.faults_before sink.faults_after put status result → IsAnswerBy Reply Begun sink result
+finished_by Reply Begun sink status result text put reply is (inl w) =
+    inl (record { text = text; reply = subst (λ n. Reply n text) (sym w.0) reply; out = subst (Appends sink.before sink.after) is w.1 })
+finished_by Reply Begun sink status result text put reply is (inr w) =
     let cut = w.2 in
     inr (inl (
       w.0,
@@ -68,6 +68,10 @@ finished words source sink bays status result text put reply is (inr w) =
         out = subst (λ (t : List ℕ). Appends sink.before sink.after (take cut.0 t)) is cut.2;
       },
     ))
+
+pub finished : (words : List (List ℕ)) (source sink : Stream) (bays : Bays) (status result : ℕ) (text put : List ℕ) → IsReply words source bays status text → put ≡ text
+    → Finishes sink.before sink.after sink.faults_before sink.faults_after put status result → IsAnswered words source sink bays result
+finished words source sink bays = finished_by (IsReply words source bays) (WasBegun words source bays) sink
 
 -- the reply to an input that was read
 pub reply_read : (words : List (List ℕ)) (command : Command) (source : Stream) (bays : Bays) (bytes given text : List ℕ) (status : ℕ) → IsNamed words command → Consumes source.before source.after bytes → IsAtEnd source.after → length bytes ≤ input_limit → given ≡ bytes
@@ -157,7 +161,7 @@ no_clients (works.Clients turns homes asks) orders is clients = absurd cc
 input_whole : (command : Command) (bytes : List ℕ) (line : ℕ) (cause : Cause) → Refuses command bytes line cause → IsInputOf command bytes → ⊥
 input_whole commands.Simulate bytes line cause (inl bad) (d, orders, run) = both_read (document_of bytes) d (line, cause) run.read bad
 input_whole commands.Simulate bytes line cause (inr out) (d, orders, run) =
-    no_clients out.document.work orders (ap (λ (x : Document). x.work) (one_document (document_of bytes) out.document d out.read run.read) ∙ run.schedule) out.clients
+    no_clients out.document.work orders (ap (λ (x : Document). x.work) (one_document (document_of bytes) out.document d out.read run.read) ∙ run.schedule) out.other
 input_whole commands.Analyse bytes line cause bad (d, read) = both_read (document_of bytes) d (line, cause) read bad
 input_whole commands.Check bytes line cause bad (d, read) = both_read (document_before bytes) d (line, cause) read bad
 input_whole commands.Print bytes line cause bad (d, read) = both_read (document_of bytes) d (line, cause) read bad

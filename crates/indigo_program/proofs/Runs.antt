@@ -1,7 +1,8 @@
 -- Documents that are run or refused.
-use Rattle.std.proofs.Common.{◌≡◌, ◌<◌, inl, inr, ℕ, List, length, sym, ap, subst, ◌∙◌}
-use Rattle.std.specs.Prelude.{Result, Ok, Err, IfOk, OnErr}
+use Rattle.std.proofs.Common.{◌≡◌, ◌<◌, inl, inr, ℕ, List, length, refl, sym, ap, subst, ◌∙◌}
+use Rattle.std.specs.Prelude.{Result, Ok, Err, IfOk, OnErr, Some}
 use Rattle.line_text.specs.declared.cause.Cause.{Cause}
+use Rattle.line_text.specs.declared.cause.Cause.TheVariants as causes
 use Rattle.run_model.specs.declared.step.Order.{Order}
 use Rattle.scenario_text.specs.declared.document.Document.{Document}
 use Rattle.scenario_text.specs.declared.document.Work.TheVariants as works
@@ -13,6 +14,7 @@ use Rattle.spec_model.specs.Stable.{IsEnough}
 use Rattle.run_model.specs.Sound.{IsSettled}
 use Rattle.reservation_plan.specs.declared.analysed.Analysed.{Analysed}
 use Rattle.plan_answers.specs.Analysing.{IsAnalysed}
+use Rattle.scenario_text.specs.Groups.{client_words, first_line}
 use Rattle.scenario_text.specs.Reading.{document_of, document_of_draft, draft_of}
 use Rattle.plan_answers.specs.Checking as checks
 use Rattle.plan_answers.specs.Splitting.{document_lines, plan_lines}
@@ -22,13 +24,19 @@ use Rattle.plan_answers.specs.declared.answer.Answer.{Answer}
 use Rattle.indigo_program.specs.CauseTexts.{refusal_text}
 use Rattle.request_workers.specs.Histories.{Bays}
 use Rattle.indigo_program.specs.Headline.{IsAnswerTo, IsLeftAlone, IsRunAnswer, LeavesAlone}
-use Rattle.indigo_program.specs.Inputs.{Refuses}
+use Rattle.indigo_program.specs.Inputs.{IsOfClients, Refuses}
 
 -- the reply that refuses a line is an answer
 pub refused_answer : {E : Type 0} (command : Command) (bytes : List ℕ) (line : ℕ) (cause : Cause) (bays : Bays) (result : Result Answer E) → IsLeftAlone bays → Refuses command bytes line cause
     → IfOk result (λ reply. (reply.status ≡ 3) × (reply.text ≡ refusal_text line cause)) → IfOk result (λ reply. IsAnswerTo command bytes reply.status reply.text bays)
 refused_answer command bytes line cause bays (Ok reply) alone refused is = inl (is.0, record { line = line; cause = cause; refused = refused; written = is.1 }, alone)
 refused_answer command bytes line cause bays (Err e) alone refused is = tt
+
+-- the first line about clients, which a simulation refuses
+pub clients_refused : {E : Type 0} (bytes : List ℕ) (d : Document) (line : ℕ) (bays : Bays) (result : Result Answer E) → document_of bytes ≡ Ok d → IsOfClients d.work → first_line client_words (lines_of bytes) ≡ Some line → IsLeftAlone bays
+    → IfOk result (λ reply. (reply.status ≡ 3) × (reply.text ≡ refusal_text line causes.OutOfPlace)) → IfOk result (λ reply. IsAnswerTo commands.Simulate bytes reply.status reply.text bays)
+clients_refused bytes d line bays result read other first alone is =
+    refused_answer commands.Simulate bytes line causes.OutOfPlace bays result alone (inr (record { document = d; read = read; other = other; first = first; cause_is = refl })) is
 
 -- what is answered to a schedule is an answer
 pub simulated_answer : {E : Type 0} (bytes : List ℕ) (d : Document) (orders given : List Order) (bays : Bays) (result : Result Answer E) → document_of bytes ≡ Ok d → d.work ≡ works.Schedule orders → given ≡ orders

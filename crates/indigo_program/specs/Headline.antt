@@ -106,11 +106,11 @@ pub record IsSoaked (seed : ℕ) (text : List ℕ) (bays : Bays) : Type 0 where
   pub run : IsTrace (generated seed) (schedule_of seed) trace bays
   pub written : text ≡ soak_text seed run.trace.entries
 
--- the text names the line that the command refuses, and why
-pub record IsRefused (command : Command) (bytes text : List ℕ) : Type 0 where
+-- the text names a line that is refused so, and why
+pub record NamesRefused (Refused : ℕ → Cause → Type 0) (text : List ℕ) : Type 0 where
   pub line : ℕ
   pub cause : Cause
-  pub refused : Refuses command bytes line cause
+  pub refused : Refused line cause
   pub written : text ≡ refusal_text line cause
 
 -- the most bytes of an input
@@ -154,14 +154,18 @@ AreKnown words = ((command : Command) × IsNamed words command) ⊎ ((seed : ℕ
 
 -- the status and the text that a command has for an input
 abbrev pub IsAnswerTo : Command → List ℕ → ℕ → List ℕ → Bays → Type 0
-IsAnswerTo command bytes status text bays = ((status ≡ 3) × IsRefused command bytes text × IsLeftAlone bays) ⊎ Makes command bytes status text bays
+IsAnswerTo command bytes status text bays = ((status ≡ 3) × NamesRefused (Refuses command bytes) text × IsLeftAlone bays) ⊎ Makes command bytes status text bays
 
--- the status and the text for an input that came: it failed within the limit, was too long, or was read
-abbrev pub IsReplyOf : Command → Stream → Bays → ℕ → List ℕ → Type 0
-IsReplyOf command source bays status text =
+-- the status and the text for an input that came: it failed within the limit, was too long, or was read and answered so
+abbrev pub IsReplyBy : (List ℕ → ℕ → List ℕ → Type 0) → Stream → Bays → ℕ → List ℕ → Type 0
+IsReplyBy Answer source bays status text =
     ((status ≡ 4) × (text ≡ codes "read fault\n") × Failed source × ConsumesWithin source.before source.after input_limit × IsLeftAlone bays)
     ⊎ ((status ≡ 6) × (text ≡ codes "input too long\n") × ConsumesJust source.before source.after (input_limit + 1) × IsLeftAlone bays)
-    ⊎ WasRead source (λ bytes. IsAnswerTo command bytes status text bays)
+    ⊎ WasRead source (λ bytes. Answer bytes status text)
+
+-- the same of a command
+abbrev pub IsReplyOf : Command → Stream → Bays → ℕ → List ℕ → Type 0
+IsReplyOf command source bays = IsReplyBy (λ bytes status text. IsAnswerTo command bytes status text bays) source bays
 
 -- the status and the text for words and an input; for a soak and for other words nothing is read
 abbrev pub IsReply : List (List ℕ) → Stream → Bays → ℕ → List ℕ → Type 0
@@ -170,22 +174,29 @@ IsReply words source bays status text =
     ⊎ ((command : Command) × IsNamed words command × IsReplyOf command source bays status text)
     ⊎ ((seed : ℕ) × AsksSoak words seed × (status ≡ 0) × IsSoaked seed text bays × Keeps source.before source.after)
 
--- the whole text is out
-pub record IsWritten (words : List (List ℕ)) (source sink : Stream) (bays : Bays) (status : ℕ) : Type 0 where
+-- the whole text of a reply is out
+pub record IsWritten (Reply : ℕ → List ℕ → Type 0) (sink : Stream) (status : ℕ) : Type 0 where
   pub text : List ℕ
-  pub reply : IsReply words source bays status text
+  pub reply : Reply status text
   pub out : Appends sink.before sink.after text
 
--- the sink failed, and a front of the text is out
-pub record IsCutOff (words : List (List ℕ)) (source sink : Stream) (bays : Bays) : Type 0 where
+-- the sink failed, and a front of the text of a reply is out
+pub record IsCutOff (Reply : ℕ → List ℕ → Type 0) (sink : Stream) : Type 0 where
   pub status : ℕ
   pub text : List ℕ
   pub front : List ℕ
   pub behind : List ℕ
-  pub reply : IsReply words source bays status text
+  pub reply : Reply status text
   pub failed : Failed sink
   pub parts : text ≡ front ++ behind
   pub out : Appends sink.before sink.after front
+
+-- what is answered: 5 where the sink failed, 9 where memory was wanting for what was begun and nothing is written, else a reply
+abbrev pub IsAnswerBy : (ℕ → List ℕ → Type 0) → Type 0 → Stream → ℕ → Type 0
+IsAnswerBy Reply Begun sink status =
+    IsWritten Reply sink status
+    ⊎ ((status ≡ 5) × IsCutOff Reply sink)
+    ⊎ ((status ≡ 9) × Begun × Keeps sink.before sink.after)
 
 -- what words ask for was begun: at most a little more than the longest input was read for a command, and nothing for a soak
 abbrev pub WasBegun : List (List ℕ) → Stream → Bays → Type 0
@@ -193,12 +204,9 @@ WasBegun words source bays =
     ((command : Command) × IsNamed words command × ConsumesWithin source.before source.after (input_limit + 1) × LeavesAlone command bays)
     ⊎ ((seed : ℕ) × AsksSoak words seed × Keeps source.before source.after)
 
--- what the program answers: 5 where the sink failed, 9 where memory was wanting for what words ask for and nothing is written, else a reply
+-- what the program answers to words
 abbrev pub IsAnswered : List (List ℕ) → Stream → Stream → Bays → ℕ → Type 0
-IsAnswered words source sink bays status =
-    IsWritten words source sink bays status
-    ⊎ ((status ≡ 5) × IsCutOff words source sink bays)
-    ⊎ ((status ≡ 9) × WasBegun words source bays × Keeps sink.before sink.after)
+IsAnswered words source sink bays status = IsAnswerBy (IsReply words source bays) (WasBegun words source bays) sink status
 
 -- the inputs for which a command succeeds: a schedule that is run and a specification that has a plan, such a specification alone, a plan with a certificate that checks, a document
 abbrev pub Succeeds : Command → List ℕ → Type 0
@@ -207,11 +215,14 @@ Succeeds commands.Analyse bytes = (document : Document) × (document_of bytes �
 Succeeds commands.Check bytes = (document : Document) × (document_before bytes ≡ Ok document) × HasYes document.spec (plan_lines (lines_of bytes))
 Succeeds commands.Print bytes = IsDocument bytes
 
--- what is owed to an input, where memory isn't wanting: 3 where the command isn't for it, and 0 exactly where it succeeds
-pub record IsOwedBy (command : Command) (bytes : List ℕ) (status : ℕ) : Type 0 where
-  pub other : (IsInputOf command bytes → ⊥) → (status ≡ 3) ⊎ (status ≡ 9)
-  pub succeeds : Succeeds command bytes → (status ≡ 0) ⊎ (status ≡ 9)
-  pub fails : (Succeeds command bytes → ⊥) → status ≡ 0 → ⊥
+-- what is owed to an input, where memory isn't wanting: 3 where it is none of those that are taken, and 0 exactly where it succeeds
+pub record IsOwedWhere (Taken Success : Type 0) (status : ℕ) : Type 0 where
+  pub other : (Taken → ⊥) → (status ≡ 3) ⊎ (status ≡ 9)
+  pub succeeds : Success → (status ≡ 0) ⊎ (status ≡ 9)
+  pub fails : (Success → ⊥) → status ≡ 0 → ⊥
+
+abbrev pub IsOwedBy : Command → List ℕ → ℕ → Type 0
+IsOwedBy command bytes status = IsOwedWhere (IsInputOf command bytes) (Succeeds command bytes) status
 
 -- the answer that is owed to an input that the source tells, where nothing fails: by its words, its length and its lines
 pub record IsOwed (words : List (List ℕ)) (bytes : List ℕ) (status : ℕ) : Type 0 where

@@ -34,18 +34,18 @@ abbrev pub IsOfClients : Work → Type 0
 IsOfClients (works.Schedule orders) = ⊥
 IsOfClients (works.Clients turns homes asks) = Unit {0}
 
--- the bytes are a document with clients, and this is its first line that is about them
-pub record IsOutOfPlace (bytes : List ℕ) (line : ℕ) (cause : Cause) : Type 0 where
+-- the bytes are a document with work that isn't taken, and this is its first line that holds one of these words, which are of such work
+pub record IsOutOfPlace (Other : Work → Type 0) (words : List (List ℕ)) (bytes : List ℕ) (line : ℕ) (cause : Cause) : Type 0 where
   pub document : Document
   pub read : document_of bytes ≡ Ok document
-  pub clients : IsOfClients document.work
-  pub first : first_line client_words (lines_of bytes) ≡ Some line
+  pub other : Other document.work
+  pub first : first_line words (lines_of bytes) ≡ Some line
   pub cause_is : cause ≡ causes.OutOfPlace
 
 -- the line that a command refuses, and why: the bytes are no document, or none that it runs
 abbrev pub Refuses : Command → List ℕ → ℕ → Cause → Type 0
 Refuses commands.Simulate bytes line cause =
-    (document_of bytes ≡ Err (line, cause)) ⊎ IsOutOfPlace bytes line cause
+    (document_of bytes ≡ Err (line, cause)) ⊎ IsOutOfPlace IsOfClients client_words bytes line cause
 Refuses commands.Analyse bytes line cause = document_of bytes ≡ Err (line, cause)
 Refuses commands.Check bytes line cause = document_before bytes ≡ Err (line, cause)
 Refuses commands.Print bytes line cause = document_of bytes ≡ Err (line, cause)

@@ -1,13 +1,11 @@
-use Rattle.std.proofs.Common.{inr, refl, sym, subst}
+use Rattle.std.proofs.Common.{refl, sym, subst}
 use Rattle.indigo_program.specs.Inputs.{IsOfClients}
-use Rattle.indigo_program.proofs.Runs.{refused_answer, simulated_answer}
+use Rattle.indigo_program.proofs.Runs.{clients_refused, simulated_answer}
 use Rattle.indigo_program.proofs.reply.run.Goals as goal
 
 pub returns-in-Some : goal.returns-in-Some
 returns-in-Some g c =
-    refused_answer _ _ _ _ _ c.refused.result (λ r. refl, λ r. refl)
-    (inr (record { document = c.args.document; read = c.requires.read; clients = subst IsOfClients (sym c.in-Clients.is) tt; first = sym c.in-Some.ensures.value; cause_is = refl }))
-    c.refused.ensures
+    clients_refused c.args.bytes.now c.args.document _ _ c.refused.result c.requires.read (subst IsOfClients (sym c.in-Clients.is) tt) (sym c.in-Some.ensures.value) (λ r. refl, λ r. refl) c.refused.ensures
 
 pub returns-in-Schedule : goal.returns-in-Schedule
 returns-in-Schedule g c =
