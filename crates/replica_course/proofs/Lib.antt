@@ -10,3 +10,4 @@ pub mod Takes
 pub mod Stopped
 pub mod Grown
 pub mod Begun
+pub mod Spent

@@ -1,5 +1,5 @@
 -- A replica through its stops, as the definitions of runs see it.
-use Rattle.std.specs.Prelude.{◌≡◌, ◌≢◌, ℕ, ◌<◌, ◌≤◌, ◌+◌, List, [], length, filter, Bool, true, false, if◌then◌else◌, Some, None}
+use Rattle.std.specs.Prelude.{◌≡◌, ◌≢◌, ℕ, ◌<◌, ◌≤◌, ◌+◌, List, [], length, filter, Bool, true, false, if◌then◌else◌, IsTrue, Some, None}
 use Rattle.spec_model.specs.declared.plan.Setup.{Setup}
 use Rattle.spec_model.specs.declared.right.Want.{Want}
 use Rattle.run_model.specs.declared.batch.Batch.{Batch}
@@ -13,6 +13,7 @@ use Rattle.run_model.specs.Logs.{log_at}
 use Rattle.run_model.specs.Locals.{Local, first_local}
 use Rattle.run_model.specs.Worlds.{Running, Sending, Standing, no_told}
 use Rattle.run_model.specs.Worlds as worlds
+use Rattle.batch_storage.specs.Shown.{Shown}
 use Rattle.message_laws.specs.Views.{View, seeing}
 use Rattle.replica_core.specs.Decisions.{IsDecided}
 use Rattle.replica_core.specs.Recovered.{AreCommitted, HasCommitted, logs_after}
@@ -101,6 +102,12 @@ is_broken outcome = false
 -- how often its disk failed: at the start, if it began down, and at these steps
 abbrev pub failures : Bool → List StepEntry → ℕ
 failures first_up entries = (if first_up then 0 else 1) + length (filter (λ e. is_broken e.outcome) entries)
+
+-- over a disk that tells its bytes and its stops, of which so many were given: those left, and those at which it failed
+pub record HasStops (given : ℕ) (s : Shown) (c : Course) : Type 0 where
+  pub tells : IsTrue s.tells
+  pub tells_stops : IsTrue s.tells_stops
+  pub few : failures c.first_up c.entries + s.stops_left ≤ given
 
 -- what it did, and how it stands at the end
 abbrev pub history_of : Setup → Course → History

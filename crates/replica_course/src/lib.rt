@@ -7,6 +7,7 @@ mod deciding;
 mod heard;
 mod keeping;
 mod laws;
+mod refusing;
 mod resting;
 mod stopping;
 mod writing;

@@ -10,7 +10,7 @@ use run_model::{Ask, Batch, Outcome, StepEntry, push_entry};
 use std::alloc::Global;
 
 /// Replaces the last element.
-fn put_last<T: Drop>(list: &mut List<T>, item: T)
+pub(crate) fn put_last<T: Drop>(list: &mut List<T>, item: T)
     requires { 0 < length list.old }
     ensures { (front : Sequence T) (last : T) → list.old ≡ front ++ last ∷ [] → list.new ≡ front ++ item ∷ [] }
 {

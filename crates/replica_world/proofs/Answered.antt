@@ -29,7 +29,8 @@ use Rattle.replica_world.specs.Links.{sendings_at}
 use Rattle.replica_world.specs.Stepping.{AreAsBefore, IsAtHand, IsDue, IsOnLink, StaysAt, StepsAt, links_after, with_room}
 use Rattle.replica_world.specs.Worlds.{AreKept, AreRunning, HasStopsAt, IsHere}
 use Rattle.replica_world.proofs.Hand.{ask_fits, has_in_hand, on_link}
-use Rattle.replica_world.proofs.Kept.{at_one, set_same, stops_more, stops_same}
+use Rattle.replica_course.proofs.Spent.{stops_more, stops_same}
+use Rattle.replica_world.proofs.Kept.{at_one, set_same}
 use Rattle.replica_world.proofs.Room.{room_at_hand, room_on_link}
 use Rattle.replica_world.proofs.Entries.{map_set}
 use Rattle.replica_world.proofs.Running.{few_entries, running_more}
@@ -93,7 +94,7 @@ pub stops_if : {S : Type 0} (shows : S → Shown) (setup : Setup) (me : ℕ) (as
     → IfOk r (λ answer. CourseSteps setup ask h c answer after) → OnErr r (IsAsBefore c after) → Costs (shows s) (shows last) (BreaksDisk r)
     → (i given : ℕ) → HasStopsAt shows courses storages i given → HasStopsAt shows (slice_set courses me after) (slice_set storages me last) i given
 stops_if shows setup me ask courses storages c after s last h (Ok answer) was had steps same costs i given before = at_one shows me courses storages c after s last was had (stops_more given (shows s) (shows last) c after answer.entry costs steps.entries steps.first_up) i before
-stops_if shows setup me ask courses storages c after s last h (Err e) was had steps same costs i given before = at_one shows me courses storages c after s last was had (stops_same given (shows s) (shows last) c after costs same.entries same.first_up) i before
+stops_if shows setup me ask courses storages c after s last h (Err e) was had steps same costs i given before = at_one shows me courses storages c after s last was had (stops_same ⊥ given (shows s) (shows last) c after costs same.entries same.first_up) i before
 
 -- the world once what was sent is on its link
 pub stepped : (setup : Setup) (me : ℕ) (ask : Ask) (links roomy put : List (List Heard)) (old new : List Course) (answer : Answer) → LocalStepIsOne → MessagesAreHeeded → DecidedGrow → IsSettled setup → setup.replicas ≤ 8

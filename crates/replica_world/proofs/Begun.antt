@@ -16,13 +16,14 @@ use Rattle.run_model.specs.Locals.{Local, StandsIn, first_local}
 use Rattle.run_model.proofs.Joined.{knows_nothing}
 use Rattle.run_model.proofs.Lists.{get_push}
 use Rattle.batch_storage.specs.Shown.{Costs, Shown, shown_of}
-use Rattle.replica_course.specs.Courses.{IsFirst, failures, local_of}
+use Rattle.replica_course.specs.Courses.{IsFirst, local_of}
 use Rattle.replica_course.specs.Steps.{heard_of}
 use Rattle.replica_course.specs.declared.course.Course.{Course}
 use Rattle.replica_course.specs.declared.heard.Heard.{Heard}
 use Rattle.replica_world.specs.Begun.{HasBegun}
 use Rattle.replica_world.specs.Links.{AreLinks, link_place, put_on, sendings_at}
-use Rattle.replica_world.specs.Worlds.{AreKept, AreRunning, HasStops, HasStopsAt, IsHere}
+use Rattle.replica_course.proofs.Spent.{first_stops}
+use Rattle.replica_world.specs.Worlds.{AreKept, AreRunning, HasStopsAt, IsHere}
 use Rattle.replica_world.proofs.Hand.{get_map}
 
 -- one more of a list
@@ -193,24 +194,9 @@ first_kept standing shows keeps setup disks courses storages h = record {
       subst (λ r. keeps s n c.kept r) (sym (ap (λ (l : Local). l.standing.running) one.first.stands)) (subst (λ b. keeps s n b (first_running one.up)) (sym (ap (λ (l : Local). l.standing.kept) one.first.stands)) one.kept);
 }
 
--- a replica that began down has spent a stop
-first_stops : (given : ℕ) (setup : Setup) (me : ℕ) (up : Bool) (c : Course) (d : Disk) (s : Shown) → TellsAll given d → IsFirst setup me up c → Costs (shown_of d) s (up ≡ false) → HasStops given s c
-first_stops given setup me up c d s told first costs = record {
-  tells = subst (λ (b : Bool). IsTrue b) (sym costs.tells) told.tells;
-  tells_stops = subst (λ (b : Bool). IsTrue b) (sym costs.tells_stops) told.tells_stops;
-  few = subst (λ n. n + s.stops_left ≤ given) (sym none) (by_up up refl);
-}
-  where
-    none : failures c.first_up c.entries ≡ failures up []
-    none = ap (λ b. failures b c.entries) first.first_up ∙ ap (failures up) first.entries
-
-    by_up : (b : Bool) → up ≡ b → failures up [] + s.stops_left ≤ given
-    by_up true is = omega (arith, ap (λ b. failures b []) is, costs.no_more_stops, told.few)
-    by_up false is = omega (arith, ap (λ b. failures b []) is, costs.spent is told.tells told.tells_stops, told.few)
-
 pub stops_first : {S D : Type 0} (standing : D → Disk) (shows : S → Shown) (keeps : S → ℕ → List Batch → Running → Type 0) (setup : Setup) (disks : List D) (courses : List Course) (storages : List S) → AreBegun standing shows keeps setup disks courses storages
     → (me given : ℕ) → ((d : D) → slice_get disks me ≡ Some d → TellsAll given (standing d)) → HasStopsAt shows courses storages me given
 stops_first standing shows keeps setup disks courses storages h me given told c s is there =
     let one = one_at standing shows keeps setup disks courses storages me c s h is there in
     let all : TellsAll given (standing one.disk) = told one.disk one.there in
-    first_stops given setup me one.begun.up c (standing one.disk) (shows s) all one.begun.first (one.begun.costs (λ tells. all.awake))
+    first_stops given setup me one.begun.up c (shown_of (standing one.disk)) (shows s) all.tells all.tells_stops all.few one.begun.first (one.begun.costs (λ tells. all.awake))

@@ -1,22 +1,17 @@
 -- What the storages keep, and the stops of their disks, over a step of one replica.
-use Rattle.std.proofs.Common.{◌≡◌, ◌⊎◌, inl, inr, ℕ, ◌+◌, Bool, false, List, [], ◌∷◌, ◌++◌, length, refl, sym, ap, subst, ◌∙◌, arith, length-set}
-use Rattle.std.specs.Prelude.{slice_get, slice_set, Some, filter, if◌then◌else◌, IsTrue}
+use Rattle.std.proofs.Common.{◌≡◌, inl, inr, ℕ, List, [], ◌∷◌, ◌++◌, refl, sym, ap, subst, ◌∙◌, length-set}
+use Rattle.std.specs.Prelude.{slice_get, slice_set, Some}
 use Rattle.std.proofs.lemmas.Bool.Decides.{eqb_tells}
-use Rattle.std.proofs.lemmas.List.{length-append}
-use Rattle.std.proofs.lemmas.List.Elements.{filter-append}
 use Rattle.std.proofs.lemmas.Option.{slice_get_within}
 use Rattle.spec_model.specs.declared.plan.Setup.{Setup}
 use Rattle.run_model.specs.declared.batch.Batch.{Batch}
-use Rattle.run_model.specs.declared.step.Outcome.{Outcome}
-use Rattle.run_model.specs.declared.step.Outcome.TheVariants as outcomes
 use Rattle.run_model.specs.declared.step.StepEntry.{StepEntry}
 use Rattle.run_model.specs.Worlds.{Running}
 use Rattle.run_model.proofs.Lists.{get_set_other, get_set_same}
 use Rattle.batch_storage.specs.Shown.{Costs, Shown}
-use Rattle.replica_course.specs.Courses.{failures, is_broken, running_of}
-use Rattle.replica_course.specs.Steps.{IsBroken}
+use Rattle.replica_course.specs.Courses.{HasStops, running_of}
 use Rattle.replica_course.specs.declared.course.Course.{Course}
-use Rattle.replica_world.specs.Worlds.{AreKept, HasStops, HasStopsAt}
+use Rattle.replica_world.specs.Worlds.{AreKept, HasStopsAt}
 
 -- what stands at a place, once one place was set
 pub set_same : {X : Type 0} (xs : List X) (i : ℕ) (old new x : X) → slice_get xs i ≡ Some old → slice_get (slice_set xs i new) i ≡ Some x → new ≡ x
@@ -37,57 +32,6 @@ kept_more keeps setup me courses storages c after s last was had now h = record 
 }
 
 -- ---- stops
-
--- whether an answer is that the disk failed
-broken_or_not : (o : Outcome) → (o ≡ outcomes.DiskBroken) ⊎ (is_broken o ≡ false)
-broken_or_not (outcomes.Done index) = inr refl
-broken_or_not (outcomes.Breaks broken) = inr refl
-broken_or_not (outcomes.Short lacking) = inr refl
-broken_or_not (outcomes.Sent number entries wants) = inr refl
-broken_or_not (outcomes.Took number applied accepted gave) = inr refl
-broken_or_not outcomes.Unsent = inr refl
-broken_or_not outcomes.Idle = inr refl
-broken_or_not outcomes.Full = inr refl
-broken_or_not outcomes.Stopped = inr refl
-broken_or_not outcomes.Kept = inr refl
-broken_or_not outcomes.Lost = inr refl
-broken_or_not outcomes.Same = inr refl
-broken_or_not outcomes.Up = inr refl
-broken_or_not outcomes.Down = inr refl
-broken_or_not outcomes.DiskBroken = inl refl
-
-failures_more : (up : Bool) (es : List StepEntry) (e : StepEntry) → failures up (es ++ e ∷ []) ≡ failures up es + length (if is_broken e.outcome then e ∷ [] else [])
-failures_more up es e =
-    omega (
-      arith,
-      ap length (filter-append (λ (f : StepEntry). is_broken f.outcome) es (e ∷ [])),
-      length-append (filter (λ (f : StepEntry). is_broken f.outcome) es) (if is_broken e.outcome then e ∷ [] else []),
-    )
-
--- a step at which the disk fails spends a stop
-pub stops_more : (given : ℕ) (old new : Shown) (c after : Course) (e : StepEntry) → Costs old new (IsBroken e.outcome) → after.entries ≡ c.entries ++ e ∷ [] → after.first_up ≡ c.first_up → HasStops given old c → HasStops given new after
-stops_more given old new c after e costs entries up h = record {
-  tells = subst (λ (b : Bool). IsTrue b) (sym costs.tells) h.tells;
-  tells_stops = subst (λ (b : Bool). IsTrue b) (sym costs.tells_stops) h.tells_stops;
-  few = elim (broken_or_not e.outcome) [
-    | inl broken ↦ omega (arith, same, more, ap (λ o. length (if is_broken o then e ∷ [] else [])) broken, costs.spent broken h.tells h.tells_stops, h.few)
-    | inr other ↦ omega (arith, same, more, ap (λ b. length (if b then e ∷ [] else [])) other, costs.no_more_stops, h.few)
-  ];
-}
-  where
-    same : failures after.first_up after.entries ≡ failures c.first_up (c.entries ++ e ∷ [])
-    same = ap (λ b. failures b after.entries) up ∙ ap (failures c.first_up) entries
-
-    more : failures c.first_up (c.entries ++ e ∷ []) ≡ failures c.first_up c.entries + length (if is_broken e.outcome then e ∷ [] else [])
-    more = failures_more c.first_up c.entries e
-
--- a refusal spends none
-pub stops_same : (given : ℕ) (old new : Shown) (c after : Course) → Costs old new ⊥ → after.entries ≡ c.entries → after.first_up ≡ c.first_up → HasStops given old c → HasStops given new after
-stops_same given old new c after costs entries up h = record {
-  tells = subst (λ (b : Bool). IsTrue b) (sym costs.tells) h.tells;
-  tells_stops = subst (λ (b : Bool). IsTrue b) (sym costs.tells_stops) h.tells_stops;
-  few = omega (arith, ap (λ b. failures b after.entries) up ∙ ap (failures c.first_up) entries, costs.no_more_stops, h.few);
-}
 
 -- at the replica that stepped, and all others
 pub at_one : {S : Type 0} (shows : S → Shown) (me : ℕ) (courses : List Course) (storages : List S) (c after : Course) (s last : S) {given : ℕ} → slice_get courses me ≡ Some c → slice_get storages me ≡ Some s → (HasStops given (shows s) c → HasStops given (shows last) after)

@@ -1,5 +1,5 @@
 -- Replicas that take the lines of a schedule, as the definitions of runs see them.
-use Rattle.std.specs.Prelude.{◌≡◌, ℕ, ◌+◌, ◌*◌, ◌<◌, ◌≤◌, List, length, map, slice_get, IsTrue, Some}
+use Rattle.std.specs.Prelude.{◌≡◌, ℕ, ◌*◌, ◌<◌, ◌≤◌, List, length, map, slice_get, Some}
 use Rattle.std.specs.List.{AllByRecursion}
 use Rattle.spec_model.specs.declared.plan.Setup.{Setup}
 use Rattle.run_model.specs.declared.batch.Batch.{Batch}
@@ -11,7 +11,7 @@ use Rattle.run_model.specs.Runs.{InOrder, Runs, asks_in, asks_of, entries_at}
 use Rattle.run_model.specs.Worlds.{Running, World, first_world, logs_of}
 use Rattle.batch_storage.specs.Shown.{Shown}
 use Rattle.scenario_text.specs.WellFormed.{OrderFits}
-use Rattle.replica_course.specs.Courses.{IsCourse, failures, local_of, running_of}
+use Rattle.replica_course.specs.Courses.{HasStops, IsCourse, local_of, running_of}
 use Rattle.replica_course.specs.declared.course.Course.{Course}
 use Rattle.replica_course.specs.declared.heard.Heard.{Heard}
 use Rattle.replica_world.specs.Links.{AreLinks, sendings_at}
@@ -43,12 +43,6 @@ pub record AreRunning (setup : Setup) (done : List Order) (courses : List Course
 pub record AreKept {S : Type 0} (keeps : S → ℕ → List Batch → Running → Type 0) (setup : Setup) (courses : List Course) (storages : List S) : Type 0 where
   pub whole : length storages ≡ length courses
   pub each : (me : ℕ) (c : Course) (s : S) → slice_get courses me ≡ Some c → slice_get storages me ≡ Some s → keeps s setup.replicas c.kept (running_of c)
-
--- a disk that tells its bytes and its stops, of which so many were given: those left, and those at which it failed
-pub record HasStops (given : ℕ) (s : Shown) (c : Course) : Type 0 where
-  pub tells : IsTrue s.tells
-  pub tells_stops : IsTrue s.tells_stops
-  pub few : failures c.first_up c.entries + s.stops_left ≤ given
 
 -- a replica's disk has these stops still
 abbrev pub HasStopsAt : {S : Type 0} → (S → Shown) → List Course → List S → ℕ → ℕ → Type 0

@@ -18,9 +18,9 @@ use Rattle.batch_storage.specs.Shown.{Shown, shown_of}
 use Rattle.scenario_text.specs.declared.document.StopLine.{StopLine}
 use Rattle.replica_course.specs.declared.course.Course.{Course}
 use Rattle.replica_course.specs.declared.heard.Heard.{Heard}
-use Rattle.replica_course.specs.Courses.{failures, history_of, local_of, running_of}
+use Rattle.replica_course.specs.Courses.{HasStops, failures, history_of, local_of, running_of}
 use Rattle.replica_world.specs.Links.{sendings_at}
-use Rattle.replica_world.specs.Worlds.{AreRunning, HasStops, HasStopsAt}
+use Rattle.replica_world.specs.Worlds.{AreRunning, HasStopsAt}
 use Rattle.request_workers.specs.Histories.{BayTells, ComesBack, HasJournal, HasSpent, stops_of, ups_of}
 use Rattle.request_workers.specs.Handing.{AreBack, AreHanded}
 use Rattle.request_workers.proofs.Finished.{mapped, some_at, some_same}
