@@ -1,0 +1,12 @@
+pub mod Stepped
+pub mod Grown
+pub mod Taking
+pub mod Noded
+pub mod Putting
+pub mod Sent
+pub mod Begun
+pub mod Acting
+pub mod Closed
+pub mod Turned
+pub mod Received
+pub mod Held
