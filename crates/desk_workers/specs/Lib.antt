@@ -1,0 +1,4 @@
+pub mod Workers
+pub mod Interleaving
+pub mod Standing
+pub mod Places
