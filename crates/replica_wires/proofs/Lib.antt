@@ -1,0 +1,5 @@
+mod Rows
+mod Passed
+mod Begins
+mod Woven
+mod Settles
