@@ -1,0 +1,3 @@
+pub mod Rooms
+pub mod Workers
+pub mod Laws
