@@ -29,6 +29,7 @@ use Rattle.replica_course.specs.declared.course.Course.{Course}
 use Rattle.client_asks.specs.Asking.{ClientWork}
 use Rattle.replica_node.specs.Laws.{AreClosed, AreJoined, AreOneRun, ClosedIsOneRun}
 use Rattle.client_runs.specs.Alone.{HaveServed, ServesAlone}
+use Rattle.client_runs.specs.Laws.{AreServedRun}
 use Rattle.client_runs.specs.Serving.{IsLegalService, IsServed, IsServedRun, takes_of, ups_of}
 
 -- ---- places
@@ -183,7 +184,7 @@ module _ (setup : Setup) (work : ClientWork) (courses : List Course) (taken put 
         subst (λ (q : History). InOrder q.entries) (sym m.2) (order setup i m.0.first_up (taken i) (put i) m.0.entries _ one.1).0;
   }
 
-  pub served_run : AloneIsCounted → ClosedIsOneRun → RunsAreSound → FinalsAgree → IsSettled setup → setup.replicas ≤ 16 → (sorted : List StepEntry) → IsMerged shown sorted → (world : World) × IsServedRun setup work shown sorted world
+  pub served_run : AloneIsCounted → ClosedIsOneRun → RunsAreSound → FinalsAgree → IsSettled setup → setup.replicas ≤ 16 → (sorted : List StepEntry) → IsMerged shown sorted → (world : World) × AreServedRun setup work courses sorted world
   served_run counts one_run sound finals settled few sorted merged =
       let join = joined sorted merged in
       let one = one_run setup courses taken put sorted settled few h.closed join in
@@ -193,15 +194,19 @@ module _ (setup : Setup) (work : ClientWork) (courses : List Course) (taken put 
       let long : length world ≡ setup.replicas = world_long setup ups sorted world long_ups one.1.runs in (
         world,
         record {
-          legal = subst (λ (us : List Bool). IsLegalService setup work us sorted world) (sym (ups_same setup courses)) (record {
-            all = long_ups;
-            runs = one.1.runs;
-            in_order = merged.in_order;
-            served = served counts sorted join;
-          });
-          sound = subst (λ (us : List Bool). AtEachStep setup us sorted (IsSound setup)) (sym (ups_same setup courses)) (λ k w runs.
-              sound setup ups (take k sorted) w settled long_ups (each_take (λ (e : StepEntry). DoFits setup.spec e.ask) k sorted (fit sorted join)) runs);
-          lasts = lasts_same setup (logs_of world) 0 courses world (h.closed.whole ∙ sym long) (λ i c p is at.
-              shows_last sorted world one.1 finals i c p is at ∙ ap (λ j. last_of p.running (final_of setup (logs_of world) j p)) (omega arith));
+          run = record {
+            legal = subst (λ (us : List Bool). IsLegalService setup work us sorted world) (sym (ups_same setup courses)) (record {
+              all = long_ups;
+              runs = one.1.runs;
+              in_order = merged.in_order;
+              served = served counts sorted join;
+            });
+            sound = subst (λ (us : List Bool). AtEachStep setup us sorted (IsSound setup)) (sym (ups_same setup courses)) (λ k w runs.
+                sound setup ups (take k sorted) w settled long_ups (each_take (λ (e : StepEntry). DoFits setup.spec e.ask) k sorted (fit sorted join)) runs);
+            lasts = lasts_same setup (logs_of world) 0 courses world (h.closed.whole ∙ sym long) (λ i c p is at.
+                shows_last sorted world one.1 finals i c p is at ∙ ap (λ j. last_of p.running (final_of setup (logs_of world) j p)) (omega arith));
+          };
+          whole = long;
+          stand = one.1.stand;
         },
       )

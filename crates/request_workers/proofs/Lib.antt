@@ -2,3 +2,12 @@ pub mod Finished
 pub mod Handed
 pub mod Scheduled
 pub mod Told
+pub mod Taking
+pub mod Taken
+pub mod Over
+pub mod Whole
+pub mod Served
+pub mod DesksOpened
+pub mod DesksParted
+pub mod Serves
+pub mod Moving

@@ -1,5 +1,5 @@
 -- What a telling bay tells of a run.
-use Rattle.std.proofs.Common.{◌≡◌, ℕ, zero, suc, ◌+◌, ◌<◌, ◌≤◌, List, [], ◌∷◌, ◌++◌, length, refl, sym, ap, subst, ◌∙◌, arith}
+use Rattle.std.proofs.Common.{◌≡◌, ℕ, zero, suc, ◌+◌, ◌<◌, ◌≤◌, List, [], ◌∷◌, length, sym, ap, subst, ◌∙◌, arith}
 use Rattle.std.specs.Prelude.{slice_get, Some, Bool, IsTrue, map}
 use Rattle.ind_disk.specs.Bay.{CameBack, returned_of, with_one}
 use Rattle.ind_disk.specs.Disk.{Standing as DiskStanding}
@@ -9,8 +9,7 @@ use Rattle.run_model.specs.declared.history.History.{History}
 use Rattle.run_model.specs.declared.step.Order.{Order}
 use Rattle.run_model.specs.declared.step.StepEntry.{StepEntry}
 use Rattle.run_model.specs.Locals.{Local}
-use Rattle.run_model.specs.Runs.{entries_at}
-use Rattle.run_model.specs.Worlds.{Standing, World}
+use Rattle.run_model.specs.Worlds.{Standing}
 use Rattle.run_trace.specs.Merging.{IsMerged}
 use Rattle.rights_journal.specs.Image.{IsFinished, StandsFor}
 use Rattle.batch_storage.specs.Held.{IsLeftBy}

@@ -1,2 +1,5 @@
 pub mod Histories
 pub mod Handing
+pub mod Serving
+pub mod Opening
+pub mod Taking

@@ -1,54 +1,24 @@
 //! The run of a document on its schedule.
 
-ghost use Rattle.std.specs.Prelude.{◌≡◌, ◌<◌, ◌≤◌, [], ℕ, List, IfOk, IsTrue, OnOk, length};
+ghost use Rattle.std.specs.Prelude.{◌≡◌, ◌≤◌, [], ℕ, List, IfOk, IsTrue, OnOk};
 ghost use Rattle.run_model.specs.declared.step.StepEntry.{StepEntry as EntryOf};
 ghost use Rattle.run_model.specs.Sound.{IsSettled};
 ghost use Rattle.run_model.specs.Worlds.{World as WorldOf};
 ghost use Rattle.run_trace.specs.Merging.{IsMerged};
 ghost use Rattle.scenario_text.specs.WellFormed.{ScheduleFits};
 ghost use Rattle.replica_world.specs.Worlds.{AreKept, AreRunning, HasStopsAt};
-ghost use Rattle.request_workers.specs.Handing.{AreBack, AreHanded};
-ghost use Rattle.request_workers.specs.Histories.{AreLegal, BayTells, stops_of, ups_of};
+ghost use Rattle.request_workers.specs.Histories.{AreLegal, BayTells, ups_of};
 
+use crate::disks::{disks_of, give_back};
 use batch_storage::{Journaled, Storage};
 use ind_base::{List as Items, NoMemory};
-use ind_disk::{Bay, Stop};
+use ind_disk::Bay;
 use replica_world::{Ended, World};
 use rights_journal::Journal;
 use run_model::{History, Order, finals_agree, runs_are_sound, runs_in_order};
 use scenario_text::StopLine;
 use spec_model::Setup;
 use std::alloc::Global;
-
-/// The stops that the lines name for a replica, in their order.
-fn stops_named(alloc: Global, lines: &[StopLine], replica: u32) -> Result<Items<Stop>, NoMemory>
-    ensures { IfOk result (λ stops. stops ≡ stops_of replica lines.now) }
-{
-    let mut stops = Items::new(alloc);
-    for line in lines {
-        if line.replica == replica {
-            stops.push(line.stop)?;
-        }
-    }
-    Ok(stops)
-}
-
-/// A disk of the bay for each replica, with the stops that the lines name for it.
-fn disks_of<B: Bay>(
-    alloc: Global,
-    replicas: u32,
-    lines: &[StopLine],
-    bay: &mut B,
-) -> Result<Vec<B::D>, NoMemory>
-    ensures { IfOk result (λ disks. AreHanded B.D.standing B.D.may_leave B.tells B.has_given B.given B.left lines.now replicas bay.old bay.new disks.items) }
-{
-    let mut disks = Vec::new(alloc);
-    for replica in 0..replicas {
-        let stops = stops_named(alloc, lines, replica)?;
-        disks.push(bay.disk(alloc, replica, stops.as_slice())?)?;
-    }
-    Ok(disks)
-}
 
 /// All lines of a schedule, one after the other.
 fn run<S: Storage + Drop>(
@@ -70,19 +40,6 @@ fn run<S: Storage + Drop>(
         world.step(alloc, setup, order.replica, order.ask)?;
     }
     Ok(())
-}
-
-/// Gives the disks back, in order of the replicas.
-fn give_back<B: Bay>(bay: &mut B, disks: Vec<B::D>)
-    requires few { length disks.items ≤ 8 }
-    requires given { (r : ℕ) → r < length disks.items → B.has_given bay.old r }
-    ensures { AreBack B.D.standing B.tells B.has_given B.given B.left (length disks.items) bay.old bay.new disks.items }
-{
-    let mut replica = 0u32;
-    for disk in disks {
-        bay.back(replica, disk);
-        replica += 1;
-    }
 }
 
 /// Runs the replicas on the schedule, each over a disk of the bay that stops where the lines name it:

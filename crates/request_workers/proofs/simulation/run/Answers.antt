@@ -1,4 +1,4 @@
-use Rattle.std.proofs.Common.{◌+◌, take, sym, subst}
+use Rattle.std.proofs.Common.{take, sym, subst}
 use Rattle.replica_world.specs.Worlds.{AreRunning}
 use Rattle.request_workers.proofs.Scheduled.{order_at}
 use Rattle.request_workers.proofs.simulation.run.Goals as goal

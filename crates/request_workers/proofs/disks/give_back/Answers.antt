@@ -1,8 +1,8 @@
-use Rattle.std.proofs.Common.{◌≡◌, ◌+◌, [], ◌∷◌, ◌++◌, length, sym, subst, arith}
+use Rattle.std.proofs.Common.{◌≡◌, [], ◌∷◌, length, sym, subst, arith}
 use Rattle.std.proofs.lemmas.List.{length-append}
 use Rattle.request_workers.specs.Handing.{AreBack}
 use Rattle.request_workers.proofs.Handed.{more_behind, next_there, one_back, taken_at}
-use Rattle.request_workers.proofs.simulation.give_back.Goals as goal
+use Rattle.request_workers.proofs.disks.give_back.Goals as goal
 
 pub loop-disk-preserved : goal.loop-disk-preserved
 loop-disk-preserved g c =

@@ -1,7 +1,7 @@
 use Rattle.std.proofs.Common.{◌+◌, sym, subst, ◌∙◌}
 use Rattle.request_workers.specs.Handing.{AreHanded}
 use Rattle.request_workers.proofs.Handed.{given_one, one_handed}
-use Rattle.request_workers.proofs.simulation.disks_of.Goals as goal
+use Rattle.request_workers.proofs.disks.disks_of.Goals as goal
 
 pub loop-replica-preserved : goal.loop-replica-preserved
 loop-replica-preserved g c =

@@ -1,6 +1,6 @@
 use Rattle.std.proofs.Common.{◌≡◌, ◌++◌, length}
 use Rattle.request_workers.specs.Handing.{AreBack}
-use Rattle.request_workers.proofs.simulation.give_back.Given as goal
+use Rattle.request_workers.proofs.disks.give_back.Given as goal
 
 abbrev pub invariant-loop-disk : goal.invariant-loop-disk
 invariant-loop-disk g l =
