@@ -3,7 +3,7 @@
 
 use ind_disk::MemBay;
 use ind_io::{StdSink, StdSource};
-use indigo_program::tool;
+use indigo_program::{NoGate, indigo};
 use std::env;
 use std::io::{self, ErrorKind};
 use std::process::ExitCode;
@@ -31,5 +31,13 @@ fn main(rt: HostRuntime) -> ExitCode {
     let Ok(mut bay) = MemBay::new(alloc) else {
         return ExitCode::from(NO_MEMORY);
     };
-    ExitCode::from(tool(alloc, words.as_slice(), &mut source, &mut sink, &mut bay))
+    ExitCode::from(indigo(
+        &rt,
+        alloc,
+        words.as_slice(),
+        &mut source,
+        &mut sink,
+        &mut bay,
+        &NoGate,
+    ))
 }

@@ -1,6 +1,6 @@
 -- The answers of the program, and why they are complete.
 use Rattle.std.proofs.Common.{◌≡◌, ◌≢◌, inl, inr, ℕ, ◌+◌, ◌^◌, ◌<◌, ◌≤◌, Bool, true, false, cond, ltb, ◌&&◌, List, [], ◌∷◌, ◌++◌, length, map, get_or, take, drop, refl, sym, ap, subst, ◌∙◌, arith}
-use Rattle.std.specs.Prelude.{Option, Some, None, Result, Ok, Err, IfNone, IfSome, IsErrOf, codes, decimal}
+use Rattle.std.specs.Prelude.{◌⊎◌, Option, Some, None, Result, Ok, Err, IfNone, IfSome, IsErrOf, codes, decimal}
 use Rattle.std.proofs.lemmas.Bool.{ltb-true}
 use Rattle.ind_base.specs.Numbers.{is_canonical, num_of, value_after}
 use Rattle.std.specs.Io.KnownBytes.{Appends, Consumes, IsAtEnd, Keeps}
@@ -16,7 +16,7 @@ use Rattle.scenario_text.specs.Reading.{document_of}
 use Rattle.indigo_program.specs.declared.command.Command.{Command}
 use Rattle.indigo_program.specs.declared.command.Command.TheVariants as commands
 use Rattle.request_workers.specs.Histories.{Bays}
-use Rattle.indigo_program.specs.Headline.{Stream, Failed, WasRead, WasBegun, AreKnown, AsksSoak, IsNamed, IsReply, IsSoaked, IsSoakOwed, IsAnswerBy, IsAnswerTo, IsAnswered, IsComplete, IsOwed, IsOwedBy, IsOwedWhere, IsRunAnswer, Makes, Succeeds, input_limit}
+use Rattle.indigo_program.specs.Headline.{Stream, Failed, WasRead, WasBegun, AreKnown, AsksSoak, IsNamed, IsReply, IsSoaked, IsSoakOwed, IsAnswerBy, IsAnswerTo, IsAnswered, IsComplete, IsOwed, IsOwedBy, IsOwedWhere, IsReplyBy, IsRunAnswer, Makes, Succeeds, input_limit}
 use Rattle.indigo_program.specs.Inputs.{IsInputOf, IsOfClients, Refuses, document_before}
 use Rattle.std.specs.List.{find}
 use Rattle.spec_model.specs.declared.plan.Plan.{Plan}
@@ -72,12 +72,6 @@ finished_by Reply Begun sink status result text put reply is (inr w) =
 pub finished : (words : List (List ℕ)) (source sink : Stream) (bays : Bays) (status result : ℕ) (text put : List ℕ) → IsReply words source bays status text → put ≡ text
     → Finishes sink.before sink.after sink.faults_before sink.faults_after put status result → IsAnswered words source sink bays result
 finished words source sink bays = finished_by (IsReply words source bays) (WasBegun words source bays) sink
-
--- the reply to an input that was read
-pub reply_read : (words : List (List ℕ)) (command : Command) (source : Stream) (bays : Bays) (bytes given text : List ℕ) (status : ℕ) → IsNamed words command → Consumes source.before source.after bytes → IsAtEnd source.after → length bytes ≤ input_limit → given ≡ bytes
-    → IsAnswerTo command given status text bays → IsReply words source bays status text
-reply_read words command source bays bytes given text status named all end short is answer =
-    inr (inl (command, named, inr (inr (record { bytes = bytes; all = all; end = end; short = short; holds = subst (λ (b : List ℕ). IsAnswerTo command b status text bays) is answer }))))
 
 -- the first letter
 abbrev letter : List (List ℕ) → ℕ
@@ -147,10 +141,10 @@ read_told source told P is h =
     (subst P same h.holds, subst (λ (b : List ℕ). length b ≤ input_limit) same h.short)
 
 -- a text isn't both a document and refused
-both_read : {D E : Type 0} (r : Result D E) (d : D) (e : E) → r ≡ Ok d → r ≡ Err e → ⊥
+pub both_read : {D E : Type 0} (r : Result D E) (d : D) (e : E) → r ≡ Ok d → r ≡ Err e → ⊥
 both_read r d e is bad = absurd (let both = sym is ∙ bad in cc)
 
-one_document : {D E : Type 0} (r : Result D E) (a b : D) → r ≡ Ok a → r ≡ Ok b → a ≡ b
+pub one_document : {D E : Type 0} (r : Result D E) (a b : D) → r ≡ Ok a → r ≡ Ok b → a ≡ b
 one_document r a b first second = let both = sym first ∙ second in cc
 
 no_clients : (work : Work) (orders : List Order) → work ≡ works.Schedule orders → IsOfClients work → ⊥
@@ -182,20 +176,20 @@ makes_input commands.Print bytes text status bays (is, printed, alone) = (printe
 -- ---- which status is owed
 
 -- the status is 0 just where this holds
-record IsZeroWhere (P : Type 0) (status : ℕ) : Type 0 where
-  zero_if : P → status ≡ 0
-  only_if : status ≡ 0 → P
+pub record IsZeroWhere (P : Type 0) (status : ℕ) : Type 0 where
+  pub zero_if : P → status ≡ 0
+  pub only_if : status ≡ 0 → P
 
 not_zero : (P : Type 0) (status : ℕ) → (P → ⊥) → (status ≡ 0 → ⊥) → IsZeroWhere P status
 not_zero P status never other = record { zero_if = λ p. absurd (never p); only_if = λ is. absurd (other is) }
 
-is_zero : (P : Type 0) (status : ℕ) → P → status ≡ 0 → IsZeroWhere P status
+pub is_zero : (P : Type 0) (status : ℕ) → P → status ≡ 0 → IsZeroWhere P status
 is_zero P status p is = record { zero_if = λ _. is; only_if = λ _. p }
 
 both_found : (found : Option Case) (k : Case) → found ≡ Some k → found ≡ None → ⊥
 both_found found k some none = absurd (let both = sym some ∙ none in cc)
 
-planless_zero : (spec : Spec) (status : ℕ) (text : List ℕ) → IsPlanless spec status text → IsZeroWhere (HasPlan spec) status
+pub planless_zero : (spec : Spec) (status : ℕ) (text : List ℕ) → IsPlanless spec status text → IsZeroWhere (HasPlan spec) status
 planless_zero spec status text (inl (is, many)) = not_zero (HasPlan spec) status (λ h. absurd (omega (arith, h.few, many.many))) (λ zero. absurd (omega (arith, is, zero)))
 planless_zero spec status text (inr (inl (is, rejection))) =
     not_zero (HasPlan spec) status (λ h. both_found (find (ends spec) (touched_cases spec)) rejection.case rejection.rejected.first h.goes) (λ zero. absurd (omega (arith, is, zero)))
@@ -254,19 +248,51 @@ makes_zero commands.Check bytes text status bays (made, alone) =
     }
 makes_zero commands.Print bytes text status bays (is, printed, alone) = is_zero (Succeeds commands.Print bytes) status (printed.document, printed.read) is
 
-owed_answer : (command : Command) (bytes text : List ℕ) (status : ℕ) (bays : Bays) → IsAnswerTo command bytes status text bays → IsOwedBy command bytes status
-owed_answer command bytes text status bays (inl (is, refused, alone)) = record {
+-- what is owed by a refusal, and by what was made of an input
+pub owed_refused : (Taken Success : Type 0) (status : ℕ) → status ≡ 3 → (Taken → ⊥) → (Success → Taken) → IsOwedWhere Taken Success status
+owed_refused Taken Success status is none taken = record {
   other = λ no_input. inl is;
-  succeeds = λ h. absurd (input_whole command bytes refused.line refused.cause refused.refused (success_input command bytes h));
+  succeeds = λ success. absurd (none (taken success));
   fails = λ no_success zero. absurd (omega (arith, is, zero));
 }
+
+pub owed_made : (Taken Success : Type 0) (status : ℕ) → Taken → IsZeroWhere Success status → IsOwedWhere Taken Success status
+owed_made Taken Success status taken h = record {
+  other = λ no_input. absurd (no_input taken);
+  succeeds = λ success. inl (h.zero_if success);
+  fails = λ no_success zero. no_success (h.only_if zero);
+}
+
+owed_answer : (command : Command) (bytes text : List ℕ) (status : ℕ) (bays : Bays) → IsAnswerTo command bytes status text bays → IsOwedBy command bytes status
+owed_answer command bytes text status bays (inl (is, refused, alone)) =
+    owed_refused (IsInputOf command bytes) (Succeeds command bytes) status is (input_whole command bytes refused.line refused.cause refused.refused) (success_input command bytes)
 owed_answer command bytes text status bays (inr made) =
-    let h = makes_zero command bytes text status bays made in
-    record {
-      other = λ no_input. absurd (no_input (makes_input command bytes text status bays made));
-      succeeds = λ success. inl (h.zero_if success);
-      fails = λ no_success zero. no_success (h.only_if zero);
-    }
+    owed_made (IsInputOf command bytes) (Succeeds command bytes) status (makes_input command bytes text status bays made) (makes_zero command bytes text status bays made)
+
+-- the reply to an input that the source tells, where nothing failed: the input is too long, or is answered so
+abbrev pub IsTold : (List ℕ → ℕ → List ℕ → Type 0) → List ℕ → ℕ → List ℕ → Type 0
+IsTold Answers told status text = ((input_limit < length told) × (status ≡ 6)) ⊎ ((length told ≤ input_limit) × Answers told status text)
+
+pub reply_told : (Answers : List ℕ → ℕ → List ℕ → Type 0) (source : Stream) (bays : Bays) (told text : List ℕ) (status : ℕ) → source.before ≡ Some told → (Failed source → ⊥) → IsReplyBy Answers source bays status text → IsTold Answers told status text
+reply_told Answers source bays told text status is whole (inl fault) = absurd (whole fault.2)
+reply_told Answers source bays told text status is whole (inr (inl long)) =
+    let over = taken_within source.before source.after told (input_limit + 1) is long.2 in
+    inl (omega (arith, over), long.0)
+reply_told Answers source bays told text status is whole (inr (inr read)) =
+    let h = read_told source told (λ bytes. Answers bytes status text) is read in
+    inr (h.1, h.0)
+
+owed_command : (words : List (List ℕ)) (command : Command) (bays : Bays) (told text : List ℕ) (status : ℕ) → IsNamed words command → IsTold (λ bytes n t. IsAnswerTo command bytes n t bays) told status text → IsOwed words told status
+owed_command words command bays told text status named (inl (over, is)) = record {
+  other_words = λ other. absurd (other (inl (command, named)));
+  long = λ again named' more. inl is;
+  short = λ again named' within. absurd (omega (arith, over, within));
+}
+owed_command words command bays told text status named (inr (within, answer)) = record {
+  other_words = λ other. absurd (other (inl (command, named)));
+  long = λ again named' more. absurd (omega (arith, within, more));
+  short = λ again named' short. subst (λ c. IsOwedBy c told status) (one_command words command again named named') (owed_answer command told text status bays answer);
+}
 
 owed_reply : (words : List (List ℕ)) (source : Stream) (bays : Bays) (told text : List ℕ) (status : ℕ) → source.before ≡ Some told → (Failed source → ⊥) → IsReply words source bays status text → IsOwed words told status
 owed_reply words source bays told text status is whole (inl bad) = record {
@@ -274,21 +300,8 @@ owed_reply words source bays told text status is whole (inl bad) = record {
   long = λ command named over. absurd (bad.2 (inl (command, named)));
   short = λ command named within. absurd (bad.2 (inl (command, named)));
 }
-owed_reply words source bays told text status is whole (inr (inl (command, named, inl fault))) = absurd (whole fault.2)
-owed_reply words source bays told text status is whole (inr (inl (command, named, inr (inl long)))) =
-    let over = taken_within source.before source.after told (input_limit + 1) is long.2 in
-    record {
-      other_words = λ other. absurd (other (inl (command, named)));
-      long = λ again named' more. inl long.0;
-      short = λ again named' within. absurd (omega (arith, over, within));
-    }
-owed_reply words source bays told text status is whole (inr (inl (command, named, inr (inr read)))) =
-    let h = read_told source told (λ bytes. IsAnswerTo command bytes status text bays) is read in
-    record {
-      other_words = λ other. absurd (other (inl (command, named)));
-      long = λ again named' more. absurd (omega (arith, h.1, more));
-      short = λ again named' within. subst (λ c. IsOwedBy c told status) (one_command words command again named named') (owed_answer command told text status bays h.0);
-    }
+owed_reply words source bays told text status is whole (inr (inl (command, named, reply))) =
+    owed_command words command bays told text status named (reply_told (λ bytes n t. IsAnswerTo command bytes n t bays) source bays told text status is whole reply)
 owed_reply words source bays told text status is whole (inr (inr soak)) = record {
   other_words = λ other. absurd (other (inr (soak.0, soak.1)));
   long = λ command named more. absurd (no_both words command soak.0 named soak.1);

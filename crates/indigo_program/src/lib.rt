@@ -1,12 +1,15 @@
-//! The program over a source and a sink that are handed in: it reads a document, runs its replicas
-//! and writes the trace.
+//! The program over a source, a sink, a bay of disks and a gate that are handed in: it reads a
+//! document, runs its replicas, on a schedule or for clients in threads, and writes the trace.
 #![tactic(auto)]
 
 mod command;
+mod gate;
 mod reply;
+mod running;
 mod soak;
 mod top;
 mod words;
 
 pub use command::Command;
-pub use top::tool;
+pub use gate::NoGate;
+pub use top::{indigo, tool};

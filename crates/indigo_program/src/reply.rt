@@ -49,7 +49,7 @@ fn put_cause(out: &mut List<u8>, cause: Cause) -> Result<(), NoMemory>
 }
 
 /// Refuses a line.
-fn refused(alloc: Global, line: u32, cause: Cause) -> Result<Answer, NoMemory>
+pub(crate) fn refused(alloc: Global, line: u32, cause: Cause) -> Result<Answer, NoMemory>
     ensures { IfOk result (λ reply. (reply.status ≡ 3) × (reply.text ≡ refusal_text line cause)) }
 {
     let mut text = List::new(alloc);

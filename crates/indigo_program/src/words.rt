@@ -2,6 +2,7 @@
 
 ghost use Rattle.std.specs.Prelude.{◌≡◌, ◌↔◌, ◌∷◌, [], ℕ, IsTrue, IfNone, IfSome, map, string_bytes};
 ghost use Rattle.indigo_program.specs.Headline.{AsksSoak, IsNamed};
+ghost use Rattle.indigo_program.specs.Running.{AsksRun};
 
 use crate::command::Command;
 use ind_base::read_num;
@@ -14,6 +15,13 @@ fn is_only(words: &[String], expected: &str) -> bool
         [word] => word.as_str() == expected,
         _ => false,
     }
+}
+
+/// Whether the words ask for a run of clients.
+pub(crate) fn asks_run(words: &[String]) -> bool
+    ensures { IsTrue result ↔ AsksRun (map string_bytes words.now) }
+{
+    is_only(words, "run")
 }
 
 /// The command that the words name, if they name one.

@@ -10,16 +10,19 @@
 use ind_base::{List, NoMemory, put_num, read_num};
 use ind_disk::MemBay;
 use ind_io::{MemSink, MemSource};
-use indigo_program::tool;
+use indigo_program::{NoGate, indigo};
 use std::alloc::Global;
+use std::sync::Wait;
+use std::thread::Threads;
 use std::{fs, io, mem};
 
 /// The room for an output, in bytes.
 const ROOM: u64 = 1_000_000;
 
 /// The files of examples.
-const FILES: [&str; 10] = [
+const FILES: [&str; 11] = [
     "certificates.txt",
+    "clients.txt",
     "crashes.txt",
     "documents.txt",
     "examples.txt",
@@ -138,7 +141,11 @@ impl Example {
     }
 
     /// Whether the program answers as the example says.
-    fn is_answered(self, alloc: Global) -> Result<bool, NoMemory> {
+    fn is_answered<R: Threads + Wait + Sync>(
+        self,
+        threads: &R,
+        alloc: Global,
+    ) -> Result<bool, NoMemory> {
         let Example {
             title,
             input,
@@ -159,7 +166,15 @@ impl Example {
         let mut source = MemSource::new(input, source.piece.max(1), source.fails);
         let mut sink = MemSink::new(alloc, ROOM, sink.piece.max(1), sink.fails)?;
         let mut bay = MemBay::new(alloc)?;
-        let got = tool(alloc, words.as_slice(), &mut source, &mut sink, &mut bay);
+        let got = indigo(
+            threads,
+            alloc,
+            words.as_slice(),
+            &mut source,
+            &mut sink,
+            &mut bay,
+            &NoGate,
+        );
         Ok(got == status && sink.bytes() == output.as_slice())
     }
 }
@@ -197,9 +212,14 @@ struct Tally {
 
 impl Tally {
     /// Counts an example that is answered as it says, and names another one.
-    fn judge(&mut self, alloc: Global, example: Example) -> Result<(), NoMemory> {
+    fn judge<R: Threads + Wait + Sync>(
+        &mut self,
+        threads: &R,
+        alloc: Global,
+        example: Example,
+    ) -> Result<(), NoMemory> {
         let title = example.title.copy(alloc)?;
-        if example.is_answered(alloc)? {
+        if example.is_answered(threads, alloc)? {
             self.passed = self.passed.saturating_add(1);
         } else {
             self.failed.extend(title.as_slice())?;
@@ -210,7 +230,11 @@ impl Tally {
 }
 
 /// Runs all examples of a text; behind the last one stands a line that begins with `%%`.
-fn run(rt: &HostRuntime, text: &[u8]) -> Result<Tally, NoMemory> {
+fn run<R: Threads + Wait + Sync>(
+    rt: &HostRuntime,
+    threads: &R,
+    text: &[u8],
+) -> Result<Tally, NoMemory> {
     let alloc = rt.alloc();
     let mut tally = Tally {
         passed: 0,
@@ -224,7 +248,7 @@ fn run(rt: &HostRuntime, text: &[u8]) -> Result<Tally, NoMemory> {
             next.title.extend(line)?;
             let done = mem::replace(&mut example, next);
             if begun {
-                tally.judge(alloc, done)?;
+                tally.judge(threads, alloc, done)?;
             }
             begun = true;
         } else {
@@ -238,7 +262,7 @@ fn main(rt: HostRuntime) -> io::Result<()> {
     let alloc = rt.alloc();
     for name in FILES {
         let text = fs::read(&rt, name)?;
-        match run(&rt, text.as_slice()) {
+        match run(&rt, &rt, text.as_slice()) {
             Ok(tally) => {
                 let failed = String::from_utf8_lossy(alloc, tally.failed.as_slice())?;
                 let passed = tally.passed;
