@@ -1,21 +1,19 @@
 -- What clients and couriers ask fits, and how much it is.
-use Rattle.std.proofs.Common.{◌≡◌, ◌≢◌, ◌⊎◌, inl, inr, ℕ, zero, suc, ◌+◌, ◌-◌, ◌*◌, ◌<◌, ◌≤◌, ◌/◌, ◌%◌, eqb, ltb, leb, cond, Bool, true, false, List, [], ◌∷◌, ◌++◌, filter, length, map, refl, sym, ap, subst, ◌∙◌, arith, mod-lt}
-use Rattle.std.specs.Prelude.{◌==◌, nat_lt, nat_le, if◌then◌else◌, sum_by, slice_get, Some, None}
+use Rattle.std.proofs.Common.{◌≡◌, ℕ, zero, suc, ◌+◌, ◌-◌, ◌<◌, ◌≤◌, ◌/◌, ◌%◌, Bool, true, false, List, [], ◌∷◌, filter, length, map, refl, ◌∙◌, arith, mod-lt}
+use Rattle.std.specs.Prelude.{◌==◌, nat_lt, if◌then◌else◌, None}
 use Rattle.std.specs.List.{AllByRecursion}
-use Rattle.std.proofs.lemmas.Bool.{cases_Bool, cond_both, eqb-true, leb-true, ltb-true, ltb-false}
-use Rattle.std.proofs.lemmas.List.{length-append, length-map}
-use Rattle.std.proofs.lemmas.List.Elements.{filter-append}
+use Rattle.std.proofs.lemmas.Bool.{cond_both, ltb-true, ltb-false}
+use Rattle.std.proofs.lemmas.List.{length-append}
 use Rattle.spec_model.specs.declared.plan.Setup.{Setup}
 use Rattle.spec_model.specs.declared.spec.Spec.{Spec}
 use Rattle.run_model.specs.declared.step.Ask.{Ask}
 use Rattle.run_model.specs.declared.step.Ask.TheVariants as asks
 use Rattle.run_model.proofs.Lists.{each_append}
-use Rattle.scenario_text.specs.Draft.{courier_turns}
 use Rattle.scenario_text.specs.WellFormed.{ClientsFit, RequestFits}
 use Rattle.scenario_text.specs.WellFormed as formed
 use Rattle.scenario_text.specs.declared.document.ClientAsk.{ClientAsk}
 use Rattle.local_runs.specs.Handed.{AskFits, IsPeer}
-use Rattle.client_asks.specs.Asking.{ClientWork, asks_by, asks_send, courier_ask, courier_asks, courier_peer, first_turns, lists_from, other_at, sends_in, turns_at}
+use Rattle.client_asks.specs.Asking.{ClientWork, asks_by, courier_ask, courier_asks, courier_peer, first_turns, lists_from, other_at, turns_at}
 use Rattle.replica_node.specs.Steps.{plain}
 
 -- an ask fits, and has no number

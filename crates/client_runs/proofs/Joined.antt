@@ -1,11 +1,10 @@
 -- What replicas served by themselves is one legal run.
-use Rattle.std.proofs.Common.{◌≡◌, inl, inr, ℕ, zero, suc, ◌+◌, ◌-◌, ◌<◌, ◌≤◌, cond, Bool, true, false, List, [], ◌∷◌, ◌++◌, length, map, take, refl, sym, ap, subst, ◌∙◌, arith, eq-eqb, length-set}
+use Rattle.std.proofs.Common.{◌≡◌, ℕ, zero, suc, ◌+◌, ◌-◌, ◌<◌, ◌≤◌, cond, Bool, true, false, List, [], ◌∷◌, ◌++◌, length, map, take, refl, sym, ap, subst, ◌∙◌, arith, eq-eqb, length-set}
+use Rattle.std.proofs.lemmas.Option.{slice_get_within}
 use Rattle.std.specs.Prelude.{slice_get, ◌==◌, if◌then◌else◌, replicate, Option, Some, None}
 use Rattle.std.specs.List.{AllByRecursion}
-use Rattle.std.proofs.lemmas.Bool.Decides.{eqb_tells}
 use Rattle.std.proofs.lemmas.List.{length-map}
 use Rattle.spec_model.specs.declared.plan.Setup.{Setup}
-use Rattle.spec_model.specs.declared.spec.Spec.{Spec}
 use Rattle.run_model.specs.declared.history.Final.{Final}
 use Rattle.run_model.specs.declared.history.History.{History}
 use Rattle.run_model.specs.declared.message.Message.{Message}
@@ -16,40 +15,40 @@ use Rattle.run_model.specs.Finals.{final_of, last_of, lasts_from}
 use Rattle.run_model.specs.Fitting.{AsksFit, DoFits}
 use Rattle.run_model.specs.Locals.{FinalsAgree, Local}
 use Rattle.run_model.specs.Logs.{Logs}
-use Rattle.run_model.specs.Runs.{InOrder, Runs, WorldSteps, entries_at}
+use Rattle.run_model.specs.Runs.{InOrder, Runs, entries_at}
 use Rattle.run_model.specs.Sound.{AtEachStep, IsSettled, IsSound, RunsAreSound}
 use Rattle.run_model.specs.Worlds.{Standing, World, first_standing, first_world, logs_of}
-use Rattle.run_model.proofs.Lists.{each_take}
+use Rattle.run_model.proofs.Lists.{each_take, get_front}
 use Rattle.run_trace.specs.Merging.{AreHistories, IsMerged}
-use Rattle.local_runs.specs.Alone.{RunsAlone, gots_in, puts_in}
-use Rattle.local_runs.specs.Handed.{AskFits, Handed, HandRuns}
-use Rattle.local_runs.specs.Laws.{AloneIsCounted, AloneIsInOrder}
+use Rattle.local_runs.specs.Alone.{RunsAlone, gots_in, numbers_got, puts_in}
+use Rattle.local_runs.specs.Handed.{AskFits, Handed, HandRuns, IsPeer}
+use Rattle.local_runs.specs.Laws.{AloneIsCounted, AloneIsInOrder, AloneIsNumbered}
 use Rattle.replica_course.specs.Courses.{history_of, local_of}
 use Rattle.replica_course.specs.declared.course.Course.{Course}
 use Rattle.client_asks.specs.Asking.{ClientWork}
-use Rattle.replica_node.specs.Laws.{AreClosed, AreJoined, AreOneRun, ClosedIsOneRun}
+use Rattle.replica_node.specs.Laws.{AreJoined, AreOneRun, ClosedIsOneRun}
 use Rattle.client_runs.specs.Alone.{HaveServed, ServesAlone}
 use Rattle.client_runs.specs.Laws.{AreServedRun}
-use Rattle.client_runs.specs.Serving.{IsLegalService, IsServed, IsServedRun, takes_of, ups_of}
+use Rattle.client_runs.specs.Serving.{IsLegalService, IsServed, takes_of, ups_of}
 
 -- ---- places
 
-get_map : {X Y : Type 0} (f : X → Y) (xs : List X) (k : ℕ) (x : X) → slice_get xs k ≡ Some x → slice_get (map f xs) k ≡ Some (f x)
+pub get_map : {X Y : Type 0} (f : X → Y) (xs : List X) (k : ℕ) (x : X) → slice_get xs k ≡ Some x → slice_get (map f xs) k ≡ Some (f x)
 get_map f [] k x is = absurd cc
 get_map f (y ∷ xs) zero x is = let same : y ≡ x = cc in ap (λ z. Some (f z)) same
 get_map f (y ∷ xs) (suc k) x is = get_map f xs k x is
 
-mapped : {X Y : Type 0} (f : X → Y) (xs : List X) (i : ℕ) (y : Y) → slice_get (map f xs) i ≡ Some y → (x : X) × (slice_get xs i ≡ Some x) × (y ≡ f x)
+pub mapped : {X Y : Type 0} (f : X → Y) (xs : List X) (i : ℕ) (y : Y) → slice_get (map f xs) i ≡ Some y → (x : X) × (slice_get xs i ≡ Some x) × (y ≡ f x)
 mapped f [] i y is = absurd cc
 mapped f (x ∷ xs) zero y is = (x, refl, cc)
 mapped f (x ∷ xs) (suc i) y is = mapped f xs i y is
 
-some_at : {X : Type 0} (xs : List X) (k : ℕ) → k < length xs → (x : X) × (slice_get xs k ≡ Some x)
+pub some_at : {X : Type 0} (xs : List X) (k : ℕ) → k < length xs → (x : X) × (slice_get xs k ≡ Some x)
 some_at [] k lt = absurd (omega (arith, lt))
 some_at (x ∷ xs) zero lt = (x, refl)
 some_at (x ∷ xs) (suc k) lt = some_at xs k (omega (arith, lt))
 
-some_same : {X : Type 0} (x y : X) → Some x ≡ Some y → x ≡ y
+pub some_same : {X : Type 0} (x y : X) → Some x ≡ Some y → x ≡ y
 some_same x y is = cc
 
 -- ---- the entries of each replica
@@ -102,11 +101,11 @@ runs_long setup old new (e ∷ entries) runs =
 world_long : (setup : Setup) (ups : List Bool) (entries : List StepEntry) (world : World) → length ups ≡ setup.replicas → Runs setup (first_world setup.replicas ups) entries world → length world ≡ setup.replicas
 world_long setup ups entries world long runs = runs_long setup (first_world setup.replicas ups) world entries runs ∙ length-map ups (first_standing setup.replicas) ∙ long
 
-ups_same : (setup : Setup) (courses : List Course) → ups_of (map (history_of setup) courses) ≡ map (λ (c : Course). c.first_up) courses
+pub ups_same : (setup : Setup) (courses : List Course) → ups_of (map (history_of setup) courses) ≡ map (λ (c : Course). c.first_up) courses
 ups_same setup [] = refl
 ups_same setup (c ∷ courses) = ap (λ (ups : List Bool). c.first_up ∷ ups) (ups_same setup courses)
 
-lasts_same : (setup : Setup) (logs : Logs) (k : ℕ) (courses : List Course) (w : World) → length courses ≡ length w
+pub lasts_same : (setup : Setup) (logs : Logs) (k : ℕ) (courses : List Course) (w : World) → length courses ≡ length w
     → ((i : ℕ) (c : Course) (p : Standing) → slice_get courses i ≡ Some c → slice_get w i ≡ Some p → (history_of setup c).last ≡ last_of p.running (final_of setup logs (k + i) p))
     → map (λ (h : History). h.last) (map (history_of setup) courses) ≡ lasts_from setup logs k w
 lasts_same setup logs k [] [] long same = refl
@@ -136,9 +135,20 @@ module _ (setup : Setup) (work : ClientWork) (courses : List Course) (taken put 
       let one = h.closed.each me at.0 at.1 in
       subst (AsksFit setup.spec) (sym (join.each me at.0 at.1)) (alone_fits setup me at.0.first_up (taken me) (put me) at.0.entries _ one.1))
 
+  -- of each other replica it got the messages in order
+  got_in_order : AloneIsNumbered → (me : ℕ) (c : Course) → slice_get courses me ≡ Some c → (peer k number : ℕ) → IsPeer setup me peer → slice_get (numbers_got peer c.entries) k ≡ Some number → number ≡ k
+  got_in_order numbers me c at peer k number is_peer is =
+      let mine = h.closed.each me c at in
+      let theirs = some_at courses peer (omega (arith, is_peer.0, h.closed.whole)) in
+      let alone = h.closed.each peer theirs.0 theirs.1 in
+      let got : numbers_got peer c.entries ≡ map (λ (m : Message). m.number) (taken me peer) = (numbers setup me c.first_up (taken me) (put me) c.entries _ mine.1).1 peer in
+      let m = mapped (λ (m : Message). m.number) (taken me peer) k number (subst (λ ks. slice_get ks k ≡ Some number) got is) in
+      let front = h.closed.passed me peer (omega (arith, slice_get_within courses me c at, h.closed.whole)) is_peer.0 is_peer.1 in
+      m.2 ∙ (numbers setup peer theirs.0.first_up (taken peer) (put peer) theirs.0.entries _ alone.1).0 me k m.0 (subst (λ ms. slice_get ms k ≡ Some m.0) (sym front.1) (get_front (taken me peer) front.0 k m.0 m.1))
+
   -- each replica served, as its entries in the run tell
-  served : AloneIsCounted → (sorted : List StepEntry) → AreJoined setup courses sorted → (me : ℕ) → me < setup.replicas → IsServed setup work sorted me
-  served counts sorted join me lt =
+  served : AloneIsCounted → AloneIsNumbered → (sorted : List StepEntry) → AreJoined setup courses sorted → (me : ℕ) → me < setup.replicas → IsServed setup work sorted me
+  served counts numbers sorted join me lt =
       let at = some_at courses me (omega (arith, lt, h.closed.whole)) in
       let one : ServesAlone setup work put me at.0.entries = h.served me at.0 at.1 in
       let many : ℕ → ℕ = λ peer. length (put peer me) - gots_in peer one.turns in
@@ -153,8 +163,9 @@ module _ (setup : Setup) (work : ClientWork) (courses : List Course) (taken put 
         closing = one.closing;
         parts = join.each me at.0 at.1 ∙ one.parts;
         asked = one.asked;
-        closed = one.closed ∙ takes_same many counted me setup.replicas same;
+        closing_asked = one.closing_asked ∙ takes_same many counted me setup.replicas same;
         found = one.found;
+        got_in_order = λ peer k number is_peer is. got_in_order numbers me at.0 at.1 peer k number is_peer (subst (λ (es : List StepEntry). slice_get (numbers_got peer es) k ≡ Some number) (join.each me at.0 at.1) is);
       }
 
   -- how a replica shows itself at the end, by all logs
@@ -184,8 +195,8 @@ module _ (setup : Setup) (work : ClientWork) (courses : List Course) (taken put 
         subst (λ (q : History). InOrder q.entries) (sym m.2) (order setup i m.0.first_up (taken i) (put i) m.0.entries _ one.1).0;
   }
 
-  pub served_run : AloneIsCounted → ClosedIsOneRun → RunsAreSound → FinalsAgree → IsSettled setup → setup.replicas ≤ 16 → (sorted : List StepEntry) → IsMerged shown sorted → (world : World) × AreServedRun setup work courses sorted world
-  served_run counts one_run sound finals settled few sorted merged =
+  pub served_run : AloneIsCounted → AloneIsNumbered → ClosedIsOneRun → RunsAreSound → FinalsAgree → IsSettled setup → setup.replicas ≤ 16 → (sorted : List StepEntry) → IsMerged shown sorted → (world : World) × AreServedRun setup work courses sorted world
+  served_run counts numbers one_run sound finals settled few sorted merged =
       let join = joined sorted merged in
       let one = one_run setup courses taken put sorted settled few h.closed join in
       let world : World = one.0 in
@@ -199,7 +210,8 @@ module _ (setup : Setup) (work : ClientWork) (courses : List Course) (taken put 
               all = long_ups;
               runs = one.1.runs;
               in_order = merged.in_order;
-              served = served counts sorted join;
+              bare = one.1.bare;
+              served = served counts numbers sorted join;
             });
             sound = subst (λ (us : List Bool). AtEachStep setup us sorted (IsSound setup)) (sym (ups_same setup courses)) (λ k w runs.
                 sound setup ups (take k sorted) w settled long_ups (each_take (λ (e : StepEntry). DoFits setup.spec e.ask) k sorted (fit sorted join)) runs);

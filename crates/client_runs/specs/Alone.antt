@@ -17,7 +17,7 @@ pub record ServesAlone (setup : Setup) (work : ClientWork) (put : ℕ → ℕ �
   pub closing : List StepEntry
   pub parts : entries ≡ turns ++ closing
   pub asked : Interleaves (turns_at setup.replicas work me) (asked_in turns)
-  pub closed : asked_in closing ≡ takes_of (λ peer. length (put peer me) - gots_in peer turns) me setup.replicas
+  pub closing_asked : asked_in closing ≡ takes_of (λ peer. length (put peer me) - gots_in peer turns) me setup.replicas
   pub found : AllByRecursion Found closing
 
 -- all replicas, whose links were settled

@@ -2,7 +2,7 @@
 
 ghost use Rattle.client_runs.specs.Laws.{ServedIsLegal};
 
-use local_runs::{alone_is_counted, alone_is_in_order};
+use local_runs::{alone_is_counted, alone_is_in_order, alone_is_numbered};
 use replica_node::closed_is_one_run;
 use run_model::{finals_agree, runs_are_sound};
 
@@ -11,6 +11,7 @@ pub fn served_is_legal()
     ensures { ServedIsLegal }
 {
     alone_is_counted();
+    alone_is_numbered();
     alone_is_in_order();
     closed_is_one_run();
     runs_are_sound();

@@ -1,12 +1,10 @@
 //! Tests of workers at desks, over numbers that grow by what is asked.
 #![tactic(auto)]
 
-mod adder;
 mod gates;
 #[cfg(test)]
 mod tests;
 mod work;
 
-pub use adder::Adder;
 pub use gates::{Meeting, Tally};
 pub use work::{at_two_desks, meeting, with_a_refusal};

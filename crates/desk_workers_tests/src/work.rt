@@ -1,13 +1,13 @@
 ghost use Rattle.std.specs.Prelude.{◌≡◌, ◌<◌, ◌≤◌, ◌+◌, ℕ, [], All, length, IfOk};
 ghost use Rattle.desk_workers.specs.Workers.{asks_at};
 
-use crate::adder::Adder;
 use crate::gates::{Meeting, Tally};
 use desk_workers::{Gate, Worker, serve_all};
 use ind_base::{List, NoMemory};
 use std::alloc::Global;
 use std::sync::Wait;
 use std::thread::Threads;
+use turn_desk_tests::Adder;
 
 fn zero(alloc: Global) -> Adder
     ensures { result.asks.items ≡ [] }

@@ -16,7 +16,7 @@ use Rattle.scenario_text.specs.Reading.{document_of}
 use Rattle.indigo_program.specs.declared.command.Command.{Command}
 use Rattle.indigo_program.specs.declared.command.Command.TheVariants as commands
 use Rattle.request_workers.specs.Histories.{Bays}
-use Rattle.indigo_program.specs.Headline.{Stream, Failed, WasRead, WasBegun, AreKnown, AsksSoak, IsNamed, IsReply, IsSoaked, IsSoakOwed, IsAnswerBy, IsAnswerTo, IsAnswered, IsComplete, IsOwed, IsOwedBy, IsOwedWhere, IsReplyBy, IsRunAnswer, Makes, Succeeds, input_limit}
+use Rattle.indigo_program.specs.Headline.{Stream, Failed, WasRead, WasBegun, AreKnown, AsksSoak, IsNamed, IsReply, IsSoaked, IsSoakOwed, IsAnswerBy, IsAnswerTo, IsAnswered, IsComplete, IsOwed, IsOwedBy, IsOwedWhere, IsReplyBy, IsScheduleAnswer, Makes, Succeeds, input_limit}
 use Rattle.indigo_program.specs.Inputs.{IsInputOf, IsOfClients, Refuses, document_before}
 use Rattle.std.specs.List.{find}
 use Rattle.spec_model.specs.declared.plan.Plan.{Plan}
@@ -200,7 +200,7 @@ analysis_zero : (spec : Spec) (status : ℕ) (text : List ℕ) → analyses.IsAn
 analysis_zero spec status text (inl (is, planned)) = is_zero (HasPlan spec) status planned.certified.has is
 analysis_zero spec status text (inr none) = planless_zero spec status text none
 
-run_zero : (d : Document) (orders : List Order) (status : ℕ) (text : List ℕ) (bays : Bays) → IsRunAnswer d orders status text bays → IsZeroWhere (HasPlan d.spec) status
+run_zero : (d : Document) (orders : List Order) (status : ℕ) (text : List ℕ) (bays : Bays) → IsScheduleAnswer d orders status text bays → IsZeroWhere (HasPlan d.spec) status
 run_zero d orders status text bays (inl (is, trace)) = is_zero (HasPlan d.spec) status trace.certified.has is
 run_zero d orders status text bays (inr (none, alone)) = planless_zero d.spec status text none
 

@@ -23,7 +23,7 @@ use Rattle.indigo_program.specs.declared.command.Command.TheVariants as commands
 use Rattle.plan_answers.specs.declared.answer.Answer.{Answer}
 use Rattle.indigo_program.specs.CauseTexts.{refusal_text}
 use Rattle.request_workers.specs.Histories.{Bays}
-use Rattle.indigo_program.specs.Headline.{IsAnswerTo, IsLeftAlone, IsRunAnswer, LeavesAlone}
+use Rattle.indigo_program.specs.Headline.{IsAnswerTo, IsLeftAlone, IsScheduleAnswer, LeavesAlone}
 use Rattle.indigo_program.specs.Inputs.{IsOfClients, Refuses}
 
 -- the reply that refuses a line is an answer
@@ -40,9 +40,9 @@ clients_refused bytes d line bays result read other first alone is =
 
 -- what is answered to a schedule is an answer
 pub simulated_answer : {E : Type 0} (bytes : List ℕ) (d : Document) (orders given : List Order) (bays : Bays) (result : Result Answer E) → document_of bytes ≡ Ok d → d.work ≡ works.Schedule orders → given ≡ orders
-    → IfOk result (λ reply. IsRunAnswer d given reply.status reply.text bays) → IfOk result (λ reply. IsAnswerTo commands.Simulate bytes reply.status reply.text bays)
+    → IfOk result (λ reply. IsScheduleAnswer d given reply.status reply.text bays) → IfOk result (λ reply. IsAnswerTo commands.Simulate bytes reply.status reply.text bays)
 simulated_answer bytes d orders given bays (Ok reply) read is same answer =
-    inr (record { document = d; orders = orders; taken = record { read = read; schedule = is }; answer = subst (λ (os : List Order). IsRunAnswer d os reply.status reply.text bays) same answer })
+    inr (record { document = d; orders = orders; taken = record { read = read; schedule = is }; answer = subst (λ (os : List Order). IsScheduleAnswer d os reply.status reply.text bays) same answer })
 simulated_answer bytes d orders given bays (Err e) read is same answer = tt
 
 -- what a command that asks for no disk answers

@@ -13,7 +13,8 @@ use Rattle.run_model.specs.declared.step.StepEntry.{StepEntry}
 use Rattle.run_model.specs.Trace.{entry_text, lasts_text}
 use Rattle.run_trace.specs.Merging.{IsMerged}
 use Rattle.client_asks.specs.Asking.{ClientWork, client_work}
-use Rattle.request_workers.specs.Histories.{Bays, ups_of}
+use Rattle.client_runs.specs.Serving.{ups_of}
+use Rattle.request_workers.specs.Histories.{Bays}
 use Rattle.request_workers.specs.Serving.{AreServed}
 use Rattle.scenario_text.specs.declared.document.Document.{Document}
 use Rattle.scenario_text.specs.declared.document.StopLine.{StopLine}

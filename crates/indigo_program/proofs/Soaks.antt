@@ -23,7 +23,8 @@ use Rattle.run_model.specs.Runs.{asks_in, asks_of, entries_at}
 use Rattle.run_model.specs.Trace.{trace_text}
 use Rattle.run_model.specs.Worlds.{World}
 use Rattle.run_trace.specs.Merging.{IsMerged}
-use Rattle.request_workers.specs.Histories.{AreLegal, BayTells, Bays, ups_of}
+use Rattle.client_runs.specs.Serving.{ups_of}
+use Rattle.request_workers.specs.Histories.{AreLegal, BayTells, Bays}
 use Rattle.scenario_text.specs.declared.document.ClientAsk.{ClientAsk}
 use Rattle.scenario_text.specs.declared.document.Document.{Document}
 use Rattle.scenario_text.specs.declared.document.StopLine.{StopLine}

@@ -31,7 +31,7 @@ use Rattle.plan_answers.specs.Analysing.{HasPlan, IsCertified, IsPlanless}
 use Rattle.plan_answers.specs.Checking as checks
 use Rattle.plan_answers.specs.Checking.{HasYes}
 use Rattle.plan_answers.specs.Splitting.{document_lines, plan_lines}
-use Rattle.indigo_program.specs.Inputs.{IsInputOf, IsRunnable, Refuses, document_before}
+use Rattle.indigo_program.specs.Inputs.{IsInputOf, IsScheduled, Refuses, document_before}
 
 -- what replicas agree on: the specification, the derived plan, and how many they are
 abbrev pub setup_of : Spec → ℕ → Setup
@@ -65,15 +65,15 @@ LeavesAlone commands.Check bays = IsLeftAlone bays
 LeavesAlone commands.Print bays = IsLeftAlone bays
 
 -- what is answered to a schedule: such a trace, or why there is no plan
-abbrev pub IsRunAnswer : Document → List Order → ℕ → List ℕ → Bays → Type 0
-IsRunAnswer document orders status text bays = ((status ≡ 0) × IsTrace document orders text bays) ⊎ (IsPlanless document.spec status text × IsLeftAlone bays)
+abbrev pub IsScheduleAnswer : Document → List Order → ℕ → List ℕ → Bays → Type 0
+IsScheduleAnswer document orders status text bays = ((status ≡ 0) × IsTrace document orders text bays) ⊎ (IsPlanless document.spec status text × IsLeftAlone bays)
 
 -- the bytes are a document with a schedule, and this is answered to that
 pub record IsSimulated (bytes : List ℕ) (status : ℕ) (text : List ℕ) (bays : Bays) : Type 0 where
   pub document : Document
   pub orders : List Order
-  pub taken : IsRunnable bytes document orders
-  pub answer : IsRunAnswer document orders status text bays
+  pub taken : IsScheduled bytes document orders
+  pub answer : IsScheduleAnswer document orders status text bays
 
 -- the bytes are a document, and the text is its canonical one
 pub record IsPrinted (bytes text : List ℕ) : Type 0 where
@@ -210,7 +210,7 @@ IsAnswered words source sink bays status = IsAnswerBy (IsReply words source bays
 
 -- the inputs for which a command succeeds: a schedule that is run and a specification that has a plan, such a specification alone, a plan with a certificate that checks, a document
 abbrev pub Succeeds : Command → List ℕ → Type 0
-Succeeds commands.Simulate bytes = (document : Document) × (orders : List Order) × IsRunnable bytes document orders × HasPlan document.spec
+Succeeds commands.Simulate bytes = (document : Document) × (orders : List Order) × IsScheduled bytes document orders × HasPlan document.spec
 Succeeds commands.Analyse bytes = (document : Document) × (document_of bytes ≡ Ok document) × HasPlan document.spec
 Succeeds commands.Check bytes = (document : Document) × (document_before bytes ≡ Ok document) × HasYes document.spec (plan_lines (lines_of bytes))
 Succeeds commands.Print bytes = IsDocument bytes

@@ -15,7 +15,7 @@ use Rattle.indigo_program.specs.declared.command.Command.{Command}
 use Rattle.indigo_program.specs.declared.command.Command.TheVariants as commands
 
 -- the bytes are a document with this schedule
-pub record IsRunnable (bytes : List ℕ) (document : Document) (orders : List Order) : Type 0 where
+pub record IsScheduled (bytes : List ℕ) (document : Document) (orders : List Order) : Type 0 where
   pub read : document_of bytes ≡ Ok document
   pub schedule : document.work ≡ works.Schedule orders
 
@@ -25,7 +25,7 @@ document_before bytes = document_of_draft (draft_of (document_lines (lines_of by
 
 -- the inputs that a command is for
 abbrev pub IsInputOf : Command → List ℕ → Type 0
-IsInputOf commands.Simulate bytes = (document : Document) × (orders : List Order) × IsRunnable bytes document orders
+IsInputOf commands.Simulate bytes = (document : Document) × (orders : List Order) × IsScheduled bytes document orders
 IsInputOf commands.Analyse bytes = IsDocument bytes
 IsInputOf commands.Check bytes = (document : Document) × (document_before bytes ≡ Ok document)
 IsInputOf commands.Print bytes = IsDocument bytes

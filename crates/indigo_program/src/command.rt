@@ -1,7 +1,7 @@
 //! The commands of the program.
 
 /// A command.
-#[derive(Clone, Copy, Debug, PartialEq, Eq)]
+#[derive(Clone, Copy, PartialEq, Eq)]
 pub enum Command {
     /// Runs the replicas of a document on its schedule.
     Simulate,

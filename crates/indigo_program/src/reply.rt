@@ -11,7 +11,7 @@ ghost use Rattle.scenario_text.specs.WellFormed.{IsWellFormedDocument, ScheduleF
 ghost use Rattle.line_text.specs.Lines.{lines_of};
 ghost use Rattle.plan_answers.specs.Checking as checks;
 ghost use Rattle.indigo_program.specs.CauseTexts.{cause_text, refusal_text};
-ghost use Rattle.indigo_program.specs.Headline.{IsAnswerTo, IsLeftAlone, IsLegalTrace, IsRunAnswer, LeavesAlone, input_limit};
+ghost use Rattle.indigo_program.specs.Headline.{IsAnswerTo, IsLeftAlone, IsLegalTrace, IsScheduleAnswer, LeavesAlone, input_limit};
 ghost use Rattle.indigo_program.specs.declared.command.Command.TheVariants as commands;
 
 use crate::command::Command;
@@ -92,7 +92,7 @@ fn run_by_plan<B: Bay>(
     requires some { 0 < replicas }
     requires few { replicas ≤ 8 }
     requires schedule { ScheduleFits spec replicas orders.now }
-    ensures { (document : DocumentOf) → document.spec ≡ spec → document.replicas ≡ replicas → document.stops ≡ stops.now → IfOk result (λ reply. IsRunAnswer document orders.now reply.status reply.text
+    ensures { (document : DocumentOf) → document.spec ≡ spec → document.replicas ≡ replicas → document.stops ≡ stops.now → IfOk result (λ reply. IsScheduleAnswer document orders.now reply.status reply.text
         (record { tells = B.tells bay.old; given_before = B.given bay.old; given_after = B.given bay.new; left_before = B.left bay.old; left_after = B.left bay.new })) }
 {
     let plan = match analyse(alloc, &spec)? {

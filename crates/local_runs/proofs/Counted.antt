@@ -1,7 +1,6 @@
 -- The entries of a replica by itself count its messages.
-use Rattle.std.proofs.Common.{◌≡◌, inl, inr, ℕ, ◌+◌, eqb, Bool, true, false, List, [], ◌∷◌, ◌++◌, length, filter, map, refl, sym, ap, subst, ◌∙◌, arith}
+use Rattle.std.proofs.Common.{◌≡◌, ℕ, ◌+◌, eqb, Bool, true, false, List, [], ◌∷◌, length, filter, map, refl, ap, ◌∙◌, arith}
 use Rattle.std.specs.Prelude.{Option, Some, None, if◌then◌else◌}
-use Rattle.std.specs.List.{flat_map}
 use Rattle.std.proofs.lemmas.List.{length-append, length-map}
 use Rattle.std.proofs.lemmas.List.Elements.{filter-append}
 use Rattle.std.proofs.lemmas.List.Concat.{flat_map-cons}
@@ -12,8 +11,8 @@ use Rattle.run_model.specs.declared.step.Ask.TheVariants as asks
 use Rattle.run_model.specs.declared.step.StepEntry.{StepEntry}
 use Rattle.run_model.specs.Locals.{Local, first_local}
 use Rattle.run_model.specs.Worlds.{Running, Up, Down, Sending, sent_to}
-use Rattle.local_runs.specs.Alone.{RunsAlone, gots_in, is_got, is_put, puts_in}
-use Rattle.local_runs.specs.Handed.{Handed, HandRuns, HandSteps, IsInHand, IsNext, Puts, hand_from, sending_of, taken_from}
+use Rattle.local_runs.specs.Alone.{gots_in, is_got, is_put, puts_in}
+use Rattle.local_runs.specs.Handed.{Handed, HandRuns, HandSteps, IsInHand, Puts, hand_from, sending_of, taken_from}
 use Rattle.local_runs.specs.Laws.{AloneIsCounted}
 
 -- one where this is so

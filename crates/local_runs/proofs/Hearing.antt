@@ -1,8 +1,7 @@
 -- What is in hand is what was sent.
-use Rattle.std.proofs.Common.{◌≡◌, ◌≢◌, ℕ, List, [], ◌∷◌, ◌++◌, map, refl, sym, ap, subst, ◌∙◌}
+use Rattle.std.proofs.Common.{◌≡◌, ℕ, List, [], refl, sym, ap, subst, ◌∙◌}
 use Rattle.std.specs.Prelude.{slice_get, slice_index_or, Option, Some, None}
 use Rattle.spec_model.specs.declared.plan.Setup.{Setup}
-use Rattle.spec_model.specs.declared.spec.Spec.{Spec}
 use Rattle.run_model.specs.declared.message.Message.{Message}
 use Rattle.run_model.specs.declared.step.Ask.{Ask}
 use Rattle.run_model.specs.declared.step.Ask.TheVariants as asks

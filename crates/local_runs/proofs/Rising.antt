@@ -1,5 +1,5 @@
 -- The stamps of a replica by itself rise.
-use Rattle.std.proofs.Common.{◌≡◌, inl, ℕ, ◌<◌, List, [], ◌∷◌, map, refl, sym, ap, subst, ◌∙◌, arith}
+use Rattle.std.proofs.Common.{◌≡◌, inl, ℕ, ◌<◌, List, [], ◌∷◌, map, subst, arith}
 use Rattle.std.specs.Prelude.{Option, Some, None}
 use Rattle.std.specs.List.{AllByRecursion}
 use Rattle.spec_model.specs.declared.plan.Setup.{Setup}
@@ -8,7 +8,6 @@ use Rattle.run_model.specs.Locals.{Local, first_local}
 use Rattle.run_model.specs.Runs.{InOrder, PrecedesFirst}
 use Rattle.run_model.specs.Steps.{next_stamp}
 use Rattle.run_model.specs.Worlds.{Sending}
-use Rattle.local_runs.specs.Alone.{RunsAlone}
 use Rattle.local_runs.specs.Handed.{Handed, HandRuns, HandSteps, heard_of}
 use Rattle.local_runs.specs.Laws.{AloneIsInOrder}
 

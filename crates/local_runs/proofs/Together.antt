@@ -1,6 +1,6 @@
 -- Runs of replicas by themselves are one run, entry by entry.
-use Rattle.std.proofs.Common.{◌≡◌, ◌≢◌, inl, inr, ℕ, zero, suc, ◌+◌, ◌<◌, ◌≤◌, Bool, List, [], ◌∷◌, ◌++◌, length, map, replicate, refl, sym, ap, subst, ◌∙◌, arith, length-set, eq-eqb}
-use Rattle.std.specs.Prelude.{slice_get, slice_index_or, slice_set, Option, Some, None, if◌then◌else◌}
+use Rattle.std.proofs.Common.{◌≡◌, ◌≢◌, inl, inr, ℕ, zero, suc, ◌<◌, ◌≤◌, Bool, List, [], ◌∷◌, ◌++◌, length, map, refl, sym, ap, subst, ◌∙◌, arith, length-set, eq-eqb}
+use Rattle.std.specs.Prelude.{slice_get, slice_set, Option, Some, None, if◌then◌else◌}
 use Rattle.std.specs.List.{AllByRecursion}
 use Rattle.std.proofs.lemmas.Bool.{cases_eq, cases_lt}
 use Rattle.std.proofs.lemmas.List.{append-nil, append_assoc, length-map, length-replicate}
@@ -11,22 +11,21 @@ use Rattle.run_model.specs.declared.message.Message.{Message}
 use Rattle.run_model.specs.declared.step.Ask.TheVariants as asks
 use Rattle.run_model.specs.declared.step.StepEntry.{StepEntry}
 use Rattle.run_model.specs.Fitting.{AsksFit, DoFits}
-use Rattle.run_model.specs.Locals.{Local, LocalSteps, LocalStepIsOne, StandsIn, StepsHere, first_local}
+use Rattle.run_model.specs.Locals.{Local, LocalStepIsOne, StandsIn, StepsHere, first_local}
 use Rattle.run_model.specs.Logs.{log_at}
 use Rattle.run_model.specs.Runs.{InOrder, Runs, WorldSteps, entries_at}
 use Rattle.run_model.specs.Sound.{IsSettled}
 use Rattle.run_model.specs.Steps.{Hears, links_of, next_stamp}
-use Rattle.run_model.specs.Worlds.{Running, Up, Sending, Standing, World, first_standing, first_world, logs_of, sent_to}
+use Rattle.run_model.specs.Worlds.{Running, Up, Sending, World, first_standing, first_world, logs_of, sent_to}
 use Rattle.run_model.proofs.Joined.{entries_same, entries_other, knows_nothing}
 use Rattle.run_model.proofs.Known.{in_order_late, each_of, earlier_named}
-use Rattle.run_model.proofs.Lists.{each_append, get_behind, get_front, get_set_same}
+use Rattle.run_model.proofs.Lists.{each_append, get_behind, get_front}
 use Rattle.run_model.proofs.WorldLogs.{links_there, logs_there}
-use Rattle.message_laws.specs.Heeded.{IsHeededWhole}
 use Rattle.message_laws.specs.Laws.{MessagesAreHeeded}
-use Rattle.message_laws.specs.Views.{view_in}
-use Rattle.local_runs.specs.Alone.{AreAlone, RunsAlone}
+use Rattle.local_runs.specs.Alone.{AreAlone, IsBareWhereDown, RunsAlone}
 use Rattle.local_runs.specs.Handed.{Handed, HandRuns, HandSteps, IsHeeded, IsPeer, IsRefused, hand_from, heard_of, sending_of, taken_from}
-use Rattle.local_runs.specs.Laws.{AloneIsTogether, AreOneRun}
+use Rattle.local_runs.specs.Laws.{AloneIsTogether}
+use Rattle.local_runs.proofs.Bare.{bare_step}
 use Rattle.local_runs.proofs.Hearing.{IsSent, do_fits, from_peer, hand_is_heard, up_with_one}
 use Rattle.local_runs.proofs.Sendings.{AreNumbered, sends_later, sends_numbered}
 
@@ -179,6 +178,15 @@ steps_now setup ups taken put lasts done e es world s steps now middle last g mi
       | inr full ↦ absurd (h.unrefused full.to full.refused)
     ]
 
+-- it names no message if it is down
+bare_now : (setup : Setup) (ups : List Bool) (taken put : ℕ → ℕ → List Message) (lasts : List Local) (done : List StepEntry) (e : StepEntry) (es : List StepEntry) (world : World) (s : Handed) (steps : List Handed) (now middle last : Local)
+    → IsGiven setup ups taken put lasts → AreMidway setup ups taken done (e ∷ es) lasts world → IsNow setup lasts (taken e.replica) e es world s steps now middle last → IsBareWhereDown e
+bare_now setup ups taken put lasts done e es world s steps now middle last g mid h =
+    elim (h.step.step (heeded_now setup ups taken put lasts done e es world s steps now middle last g mid h s.hand refl)) [
+      | inl local ↦ bare_step setup e.replica s.hand now e middle h.step local
+      | inr full ↦ absurd (h.unrefused full.to full.refused)
+    ]
+
 -- ---- after it
 
 -- the replica that has stepped
@@ -271,14 +279,20 @@ stands_last setup world me now last (s ∷ steps) are runs stands = absurd (some
     something : (a : StepEntry) (xs : List StepEntry) → a ∷ xs ≡ [] → ⊥
     something a xs is = cc
 
+-- the world to which these entries lead, in which the replicas stand so
+record AreSoFar (setup : Setup) (ups : List Bool) (entries : List StepEntry) (lasts : List Local) (world : World) : Type 0 where
+  runs : Runs setup (first_world setup.replicas ups) entries world
+  stand : (me : ℕ) (l : Local) → slice_get lasts me ≡ Some l → StandsIn world me l
+
 go_on : (setup : Setup) (ups : List Bool) (taken put : ℕ → ℕ → List Message) (lasts : List Local) (done rest : List StepEntry) (world : World) → IsGiven setup ups taken put lasts → InOrder rest → AllByRecursion (λ e. e.replica < setup.replicas) rest
-    → AllByRecursion (λ e. (to : ℕ) → IsRefused to e → ⊥) rest → AreMidway setup ups taken done rest lasts world → (end : World) × AreOneRun setup ups (done ++ rest) lasts end
+    → AllByRecursion (λ e. (to : ℕ) → IsRefused to e → ⊥) rest → AreMidway setup ups taken done rest lasts world → (end : World) × AreSoFar setup ups (done ++ rest) lasts end × AllByRecursion IsBareWhereDown rest
 go_on setup ups taken put lasts done [] world g order within unrefused mid = (
   world,
   record {
     runs = subst (λ (es : List StepEntry). Runs setup (first_world setup.replicas ups) es world) (sym (append-nil done)) mid.runs;
     stand = λ me l there. let its = mid.each me l there in stands_last setup world me its.now l its.behind its.are its.runs its.stands;
   },
+  tt,
 )
 go_on setup ups taken put lasts done (e ∷ es) world g order within unrefused mid =
     let me : ℕ = e.replica in
@@ -299,7 +313,8 @@ go_on setup ups taken put lasts done (e ∷ es) world g order within unrefused m
     } in
     let next = midway_next setup ups taken put lasts done e es world first.s first.steps its.now first.middle last.0 g mid h in
     let rest = go_on setup ups taken put lasts (done ++ e ∷ []) es (slice_set world me first.middle.standing) g order.1 within.1 unrefused.1 next in
-    (rest.0, subst (λ (all : List StepEntry). AreOneRun setup ups all lasts rest.0) (append_assoc done (e ∷ []) es) rest.1)
+    let bare = bare_now setup ups taken put lasts done e es world first.s first.steps its.now first.middle last.0 g mid h in
+    (rest.0, subst (λ (all : List StepEntry). AreSoFar setup ups all lasts rest.0) (append_assoc done (e ∷ []) es) rest.1, (bare, rest.2))
 
 -- ---- the beginning
 
@@ -357,4 +372,5 @@ midway_first setup ups taken put entries lasts h = record {
 
 pub alone_together : LocalStepIsOne → MessagesAreHeeded → AloneIsTogether
 alone_together one heeded setup ups taken put entries lasts settled few order h =
-    go_on setup ups taken put lasts [] entries (first_world setup.replicas ups) (given_of one heeded setup ups taken put entries lasts settled few h) order h.within h.never_full (midway_first setup ups taken put entries lasts h)
+    let all = go_on setup ups taken put lasts [] entries (first_world setup.replicas ups) (given_of one heeded setup ups taken put entries lasts settled few h) order h.within h.never_full (midway_first setup ups taken put entries lasts h) in
+    (all.0, record { runs = all.1.runs; stand = all.1.stand; bare = all.2 })

@@ -1,10 +1,11 @@
 -- Runs of replicas by themselves, and what passed on the links between them.
-use Rattle.std.specs.Prelude.{◌≡◌, ◌≢◌, ℕ, ◌<◌, List, ◌++◌, length, map, filter, ◌==◌, Bool, false, slice_get, Some}
-use Rattle.std.specs.List.{AllByRecursion}
+use Rattle.std.specs.Prelude.{◌≡◌, ◌≢◌, ℕ, ◌<◌, List, [], ◌∷◌, ◌++◌, length, map, filter, ◌==◌, if◌then◌else◌, Bool, false, slice_get, Some}
+use Rattle.std.specs.List.{AllByRecursion, flat_map}
 use Rattle.spec_model.specs.declared.plan.Setup.{Setup}
 use Rattle.run_model.specs.declared.message.Message.{Message}
 use Rattle.run_model.specs.declared.step.Ask.{Ask}
 use Rattle.run_model.specs.declared.step.Ask.TheVariants as asks
+use Rattle.run_model.specs.declared.step.Outcome.TheVariants as outcomes
 use Rattle.run_model.specs.declared.step.StepEntry.{StepEntry}
 use Rattle.run_model.specs.Locals.{Local, first_local}
 use Rattle.run_model.specs.Runs.{entries_at}
@@ -34,6 +35,16 @@ pub record AreAlone (setup : Setup) (ups : List Bool) (taken put : ℕ → ℕ �
 
 -- ---- messages by their entries
 
+-- an ask that names no message by its number
+abbrev pub IsBare : Ask → Type 0
+IsBare (asks.Send to (Some number)) = ⊥
+IsBare (asks.Take from (Some number)) = ⊥
+IsBare ask = Unit {0}
+
+-- a replica that is down puts no message, and gets none
+abbrev pub IsBareWhereDown : StepEntry → Type 0
+IsBareWhereDown e = e.outcome ≡ outcomes.Down → IsBare e.ask
+
 abbrev pub is_put : ℕ → Ask → Bool
 is_put to (asks.Send peer (Some number)) = peer == to
 is_put to ask = false
@@ -49,3 +60,12 @@ puts_in to entries = length (filter (λ e. is_put to e.ask) entries)
 -- how many messages of that replica were got
 abbrev pub gots_in : ℕ → List StepEntry → ℕ
 gots_in from entries = length (filter (λ e. is_got from e.ask) entries)
+
+-- the number of the message of that replica that an ask got, if it got one
+abbrev pub number_got : ℕ → Ask → List ℕ
+number_got from (asks.Take peer (Some number)) = if peer == from then number ∷ [] else []
+number_got from ask = []
+
+-- the numbers of the messages of that replica that were got, in order
+abbrev pub numbers_got : ℕ → List StepEntry → List ℕ
+numbers_got from entries = flat_map (λ e. number_got from e.ask) entries

@@ -1,6 +1,6 @@
 //! Laws of replicas that run by themselves, for callers to cite.
 
-ghost use Rattle.local_runs.specs.Laws.{AloneIsCounted, AloneIsInOrder, AloneIsTogether};
+ghost use Rattle.local_runs.specs.Laws.{AloneIsCounted, AloneIsInOrder, AloneIsNumbered, AloneIsTogether};
 
 /// What replicas did by themselves is one run, where all entries stand in order, and each took from
 /// each link a front of what was put there.
@@ -16,4 +16,10 @@ pub fn alone_is_in_order()
 /// A replica by itself has an entry with a number for each message that it put or took.
 pub fn alone_is_counted()
     ensures { AloneIsCounted }
+{}
+
+/// A replica by itself numbers the messages that it put for another from 0, and its entries have the
+/// numbers of those that it took, in order.
+pub fn alone_is_numbered()
+    ensures { AloneIsNumbered }
 {}

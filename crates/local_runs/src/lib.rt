@@ -3,4 +3,4 @@
 
 mod laws;
 
-pub use laws::{alone_is_counted, alone_is_in_order, alone_is_together};
+pub use laws::{alone_is_counted, alone_is_in_order, alone_is_numbered, alone_is_together};

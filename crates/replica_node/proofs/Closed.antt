@@ -116,5 +116,6 @@ closed_one_run law setup courses taken put entries settled few closed joined =
             let l = some_at made.lasts me (omega (arith, lt, made.whole)) in
             let its = last_at me c l.0 there l.1 in
             (its.0, subst (StandsIn run.0 me) its.1 (run.1.stand me l.0 l.1));
+        bare = run.1.bare;
       },
     )

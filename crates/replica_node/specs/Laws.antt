@@ -8,7 +8,7 @@ use Rattle.run_model.specs.Locals.{StandsIn}
 use Rattle.run_model.specs.Runs.{InOrder, Runs, entries_at}
 use Rattle.run_model.specs.Sound.{IsSettled}
 use Rattle.run_model.specs.Worlds.{Sending, World, first_world}
-use Rattle.local_runs.specs.Alone.{IsFront, RunsAlone}
+use Rattle.local_runs.specs.Alone.{IsBareWhereDown, IsFront, RunsAlone}
 use Rattle.local_runs.specs.Handed.{IsRefused}
 use Rattle.replica_course.specs.Courses.{local_of}
 use Rattle.replica_course.specs.declared.course.Course.{Course}
@@ -26,10 +26,11 @@ pub record AreJoined (setup : Setup) (courses : List Course) (entries : List Ste
   pub within : AllByRecursion (λ e. e.replica < setup.replicas) entries
   pub each : (me : ℕ) (c : Course) → slice_get courses me ≡ Some c → entries_at me entries ≡ c.entries
 
--- the world of a run in which all of them stand
+-- the world of a run in which all of them stand; one that was down put and got nothing
 pub record AreOneRun (setup : Setup) (courses : List Course) (entries : List StepEntry) (world : World) : Type 0 where
   pub runs : Runs setup (first_world setup.replicas (map (λ c. c.first_up) courses)) entries world
   pub stand : (me : ℕ) (c : Course) → slice_get courses me ≡ Some c → (sendings : List Sending) × StandsIn world me (local_of setup.replicas sendings c)
+  pub bare : AllByRecursion IsBareWhereDown entries
 
 -- what such replicas did is one run by a plan that is enough
 abbrev pub ClosedIsOneRun : Type 0

@@ -1,6 +1,6 @@
 -- Replicas that have taken a whole schedule: their histories are those of a legal run of it.
-use Rattle.std.proofs.Common.{◌≡◌, inl, inr, ℕ, zero, suc, ◌+◌, ◌<◌, ◌≤◌, cond, List, [], ◌∷◌, length, take, refl, sym, ap, subst, ◌∙◌, arith}
-use Rattle.std.specs.Prelude.{slice_get, Some, Option, Bool, map}
+use Rattle.std.proofs.Common.{◌≡◌, inl, inr, ℕ, ◌<◌, ◌≤◌, cond, List, [], ◌∷◌, length, take, refl, sym, ap, subst, ◌∙◌, arith}
+use Rattle.std.specs.Prelude.{slice_get, Some, Bool, map}
 use Rattle.std.specs.List.{AllByRecursion}
 use Rattle.std.proofs.lemmas.Bool.{ne_eqb, cases_lt}
 use Rattle.std.proofs.lemmas.Bool.Decides.{eqb_tells}
@@ -8,14 +8,12 @@ use Rattle.std.proofs.lemmas.List.{length-map}
 use Rattle.spec_model.specs.declared.plan.Setup.{Setup}
 use Rattle.run_model.specs.declared.step.Order.{Order}
 use Rattle.run_model.specs.declared.step.StepEntry.{StepEntry}
-use Rattle.run_model.specs.declared.history.Final.{Final}
 use Rattle.run_model.specs.declared.history.History.{History}
-use Rattle.run_model.specs.Logs.{Logs}
 use Rattle.run_model.specs.Worlds.{Standing, World, logs_of}
 use Rattle.run_model.specs.Runs.{InOrder, IsLegal, asks_in, entries_at}
 use Rattle.run_model.specs.Fitting.{DoFits}
 use Rattle.run_model.specs.Sound.{AtEachStep, IsSettled, IsSound, RunsAreSound}
-use Rattle.run_model.specs.Finals.{final_of, last_of, lasts_from}
+use Rattle.run_model.specs.Finals.{final_of, last_of}
 use Rattle.run_model.specs.Locals.{FinalsAgree, Local, RunsInOrder}
 use Rattle.run_model.proofs.Lists.{each_take}
 use Rattle.run_trace.specs.Merging.{AreOf, IsMerged}
@@ -26,27 +24,9 @@ use Rattle.replica_course.specs.Courses.{history_of, local_of}
 use Rattle.replica_world.specs.Links.{sendings_at}
 use Rattle.replica_world.specs.Worlds.{AreRunning, IsHere}
 use Rattle.replica_world.proofs.Asked.{asked_fit}
-use Rattle.request_workers.specs.Histories.{AreLegal, ups_of}
-
--- ---- places
-
-pub some_same : {X : Type 0} (x y : X) → Some x ≡ Some y → x ≡ y
-some_same x y is = cc
-
-get_map : {X Y : Type 0} (f : X → Y) (xs : List X) (k : ℕ) (x : X) → slice_get xs k ≡ Some x → slice_get (map f xs) k ≡ Some (f x)
-get_map f [] k x is = absurd cc
-get_map f (y ∷ xs) zero x is = let same : y ≡ x = cc in ap (λ z. Some (f z)) same
-get_map f (y ∷ xs) (suc k) x is = get_map f xs k x is
-
-pub mapped : {X Y : Type 0} (f : X → Y) (xs : List X) (i : ℕ) (y : Y) → slice_get (map f xs) i ≡ Some y → (x : X) × (slice_get xs i ≡ Some x) × (y ≡ f x)
-mapped f [] i y is = absurd cc
-mapped f (x ∷ xs) zero y is = (x, refl, cc)
-mapped f (x ∷ xs) (suc i) y is = mapped f xs i y is
-
-pub some_at : {X : Type 0} (xs : List X) (k : ℕ) → k < length xs → (x : X) × (slice_get xs k ≡ Some x)
-some_at [] k lt = absurd (omega (arith, lt))
-some_at (x ∷ xs) zero lt = (x, refl)
-some_at (x ∷ xs) (suc k) lt = some_at xs k (omega (arith, lt))
+use Rattle.client_runs.specs.Serving.{ups_of}
+use Rattle.client_runs.proofs.Joined.{get_map, lasts_same, mapped, some_at, some_same, ups_same}
+use Rattle.request_workers.specs.Histories.{AreLegal}
 
 -- ---- the histories
 
@@ -61,24 +41,6 @@ own_entries me (e ∷ es) = elim (eqb_tells e.replica me) [
 entries_none : (n me : ℕ) (es : List StepEntry) → n ≤ me → AllByRecursion (λ e. e.replica < n) es → entries_at me es ≡ []
 entries_none n me [] le below = refl
 entries_none n me (e ∷ es) le below = ap (λ b. cond b (e ∷ entries_at me es) (entries_at me es)) (ne_eqb e.replica me (λ is. absurd (omega (arith, le, below.0, is)))) ∙ entries_none n me es le below.1
-
--- which replicas were up is told by their histories
-ups_same : (setup : Setup) (courses : List Course) → ups_of (map (history_of setup) courses) ≡ map (λ (c : Course). c.first_up) courses
-ups_same setup [] = refl
-ups_same setup (c ∷ courses) = ap (λ (ups : List Bool). c.first_up ∷ ups) (ups_same setup courses)
-
--- ---- the last states
-
-lasts_same : (setup : Setup) (logs : Logs) (k : ℕ) (courses : List Course) (w : World) → length courses ≡ length w
-    → ((i : ℕ) (c : Course) (p : Standing) → slice_get courses i ≡ Some c → slice_get w i ≡ Some p → (history_of setup c).last ≡ last_of p.running (final_of setup logs (k + i) p))
-    → map (λ (h : History). h.last) (map (history_of setup) courses) ≡ lasts_from setup logs k w
-lasts_same setup logs k [] [] long same = refl
-lasts_same setup logs k [] (p ∷ w) long same = absurd (omega (arith, long))
-lasts_same setup logs k (c ∷ courses) [] long same = absurd (omega (arith, long))
-lasts_same setup logs k (c ∷ courses) (p ∷ w) long same =
-    ap (λ (f : Option Final). f ∷ map (λ (h : History). h.last) (map (history_of setup) courses)) (same 0 c p refl refl ∙ ap (λ j. last_of p.running (final_of setup logs j p)) (omega arith))
-    ∙ ap (λ (fs : List (Option Final)). last_of p.running (final_of setup logs k p) ∷ fs)
-    (lasts_same setup logs (k + 1) courses w (omega (arith, long)) (λ i other q is at. same (suc i) other q is at ∙ ap (λ j. last_of q.running (final_of setup logs j q)) (omega arith)))
 
 -- ---- one legal run
 

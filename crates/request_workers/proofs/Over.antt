@@ -1,5 +1,6 @@
 -- Replicas whose turns are over: what each did, and that it can take all that was left for it.
 use Rattle.std.proofs.Common.{◌≡◌, inl, inr, ℕ, zero, suc, ◌+◌, ◌*◌, ◌<◌, ◌≤◌, cond, Bool, true, false, List, [], ◌∷◌, ◌++◌, filter, length, map, refl, sym, ap, subst, ◌∙◌, arith}
+use Rattle.std.proofs.lemmas.Option.{slice_get_within}
 use Rattle.std.specs.Prelude.{replicate, slice_get, slice_index_or, Some, None}
 use Rattle.std.specs.List.{AllByRecursion}
 use Rattle.std.proofs.lemmas.Bool.{cases_eq}
@@ -38,8 +39,8 @@ use Rattle.client_runs.specs.Serving.{asked_in, takes_of}
 use Rattle.client_runs.proofs.Counted.{interleaves_long, lengths, sends_are, sends_few, turns_few}
 use Rattle.request_workers.specs.Opening.{HasServedWired, IsOpened, IsParted, Wired}
 use Rattle.request_workers.specs.Taking.{CanAllTake, to_take}
-use Rattle.request_workers.proofs.Finished.{some_at}
-use Rattle.request_workers.proofs.Taking.{index_is, place_within, takes_here, takes_there}
+use Rattle.client_runs.proofs.Joined.{some_at}
+use Rattle.request_workers.proofs.Taking.{index_is, takes_here, takes_there}
 
 -- ---- sends
 
@@ -175,7 +176,7 @@ module _ {S D : Type 0} (keeps : S → ℕ → List Batch → Running → Type 0
     whole = over.whole;
     left_whole = settled.whole ∙ web_is;
     each = λ me s lists s_at lists_at.
-        let lt : me < setup.replicas = omega (arith, place_within stills me s s_at, over.whole) in
+        let lt : me < setup.replicas = omega (arith, slice_get_within stills me s s_at, over.whole) in
         let d = some_at disks me (omega (arith, lt, over.disks_whole)) in
         let p = some_at passes me (omega (arith, lt, over.passes_whole)) in
         let mine = over.each me d.0 s p.0 d.1 s_at p.1 in

@@ -1,5 +1,6 @@
 -- What a telling bay tells of a run of clients.
 use Rattle.std.proofs.Common.{◌≡◌, ℕ, ◌<◌, ◌≤◌, List, length, map, sym, ap, subst, ◌∙◌, arith}
+use Rattle.std.proofs.lemmas.Option.{slice_get_within}
 use Rattle.std.specs.Prelude.{slice_get, Some, Bool, IsTrue}
 use Rattle.std.proofs.lemmas.List.{length-map}
 use Rattle.ind_disk.specs.Bay.{CameBack, returned_of, with_one}
@@ -22,11 +23,11 @@ use Rattle.replica_course.specs.Courses.{HasStops, failures, history_of, local_o
 use Rattle.client_asks.specs.Asking.{ClientWork}
 use Rattle.client_runs.specs.Laws.{AreServedRun, ServedIsLegal}
 use Rattle.request_workers.specs.Handing.{AreBack, AreHanded}
-use Rattle.request_workers.specs.Histories.{BayTells, Bays, ComesBack, HasSpent, stops_of, ups_of}
+use Rattle.client_runs.specs.Serving.{ups_of}
+use Rattle.request_workers.specs.Histories.{BayTells, Bays, ComesBack, HasSpent, stops_of}
 use Rattle.request_workers.specs.Serving.{AreServed}
 use Rattle.request_workers.specs.Taking.{HasRun}
-use Rattle.request_workers.proofs.Finished.{mapped, some_at, some_same}
-use Rattle.request_workers.proofs.Taking.{place_within}
+use Rattle.client_runs.proofs.Joined.{mapped, some_at, some_same}
 
 -- what a journal leaves of a replica
 abbrev left_by : ℕ → List Batch → Running → List ℕ → Type 0
@@ -48,7 +49,7 @@ module _ {B D : Type 0} (standing : D → DiskStanding) (may_leave : D → List 
 
   returned : IsTrue (tells old) → (me : ℕ) (c : Course) → slice_get run.courses me ≡ Some c → IsReturned me c
   returned telling me c is =
-      let lt : me < setup.replicas = omega (arith, place_within run.courses me c is, run.served.closed.whole) in
+      let lt : me < setup.replicas = omega (arith, slice_get_within run.courses me c is, run.served.closed.whole) in
       let before = some_at disks me (omega (arith, lt, handed.whole)) in
       let d = some_at ended me (omega (arith, lt, run.whole)) in
       let has : HasStops (length (stops_of me lines)) (shown_of (standing d.0)) c = run.stops me (length (stops_of me lines)) c before.0 d.0 is before.1 d.1 (handed.told telling me before.0 before.1) in
@@ -76,7 +77,7 @@ module _ {B D : Type 0} (standing : D → DiskStanding) (may_leave : D → List 
             let here : Spent c.0.first_up c.0.entries = (returned_of (standing its.disk), its.came, its.stops.few) in
             subst (Spent up) (sym (merged.each r one.0 one.1 ∙ ap (λ (k : History). k.entries) c.2)) (subst (λ (b : Bool). Spent b c.0.entries) (sym (one.2 ∙ ap (λ (k : History). k.first_up) c.2)) here);
         journals = λ r p at.
-            let lt : r < setup.replicas = omega (arith, place_within world r p at, long) in
+            let lt : r < setup.replicas = omega (arith, slice_get_within world r p at, long) in
             let c = some_at run.courses r (omega (arith, lt, run.served.closed.whole)) in
             let its = returned telling r c.0 c.1 in
             let same = stand r c.0 c.1 p at in

@@ -1,7 +1,7 @@
 -- Replicas that came to desks, served, and left them.
 use Rattle.std.proofs.Common.{◌≡◌, ℕ, ◌^◌, ◌<◌, ◌≤◌, List, [], length, sym, ap, subst, ◌∙◌, arith}
 use Rattle.std.specs.Prelude.{IfOk, Result, Ok, Err, slice_get, slice_index_or, sum_by, Some}
-use Rattle.std.proofs.lemmas.Option.{slice_get-get_or}
+use Rattle.std.proofs.lemmas.Option.{slice_get-get_or, slice_get_within}
 use Rattle.ind_disk.specs.Disk.{Standing as DiskStanding}
 use Rattle.spec_model.specs.declared.plan.Setup.{Setup}
 use Rattle.run_model.specs.declared.batch.Batch.{Batch}
@@ -26,9 +26,8 @@ use Rattle.desk_workers.specs.Interleaving.{Interleaves, asks_of}
 use Rattle.desk_workers.specs.Places.{Each}
 use Rattle.desk_workers.specs.Workers.{asks_at, lists_at}
 use Rattle.request_workers.specs.Opening.{AreOpened, AreParted, IsOpened, Wired}
-use Rattle.request_workers.proofs.Finished.{some_at}
+use Rattle.client_runs.proofs.Joined.{some_at}
 use Rattle.request_workers.proofs.Over.{AreOver, is_over, over_node}
-use Rattle.request_workers.proofs.Taking.{place_within}
 
 pub ok_so : {X E : Type 0} (P Q : X → Type 0) (result : Result X E) → IfOk result P → ((x : X) → P x → Q x) → IfOk result Q
 ok_so P Q (Ok x) is so = so x is
@@ -51,7 +50,7 @@ module _ {S D R : Type 0} (keeps : S → ℕ → List Batch → Running → Type
   -- what stands at a place, and its disk
   opened_at : (k : ℕ) (v : Serving (Wired S D R)) → slice_get values k ≡ Some v → (k < setup.replicas) × (d : D) × (slice_get disks k ≡ Some d) × IsOpened standing shows setup web k d v
   opened_at k v at =
-      let lt : k < setup.replicas = omega (arith, place_within values k v at, opened.whole, disks_whole) in
+      let lt : k < setup.replicas = omega (arith, slice_get_within values k v at, opened.whole, disks_whole) in
       let d = some_at disks k (omega (arith, lt, disks_whole)) in
       (lt, d.0, d.1, opened.each k d.0 v d.1 at)
 
@@ -80,7 +79,7 @@ module _ {S D R : Type 0} (keeps : S → ℕ → List Batch → Running → Type
     -- a replica as it opened
     before_at : (me : ℕ) (v : Serving (Wired S D R)) → slice_get after me ≡ Some v → (before : Serving (Wired S D R)) × (slice_get values me ≡ Some before) × (v.setup ≡ before.setup) × (v.first ≡ before.first)
     before_at me v at =
-        let b = some_at values me (omega (arith, place_within after me v at, whole)) in
+        let b = some_at values me (omega (arith, slice_get_within after me v at, whole)) in
         let is = same me b.0 v b.1 at in
         (b.0, b.1, ap (λ (o : Opening (Wired S D R)). o.setup) is, ap (λ (o : Opening (Wired S D R)). o.first) is)
 
@@ -88,7 +87,7 @@ module _ {S D R : Type 0} (keeps : S → ℕ → List Batch → Running → Type
     theirs web_is = record {
       whole = parted.passes_whole ∙ all_whole ∙ sym web_is;
       each = λ me p at.
-          let lt : me < setup.replicas = omega (arith, place_within passes me p at, parted.passes_whole, all_whole) in
+          let lt : me < setup.replicas = omega (arith, slice_get_within passes me p at, parted.passes_whole, all_whole) in
           let v = some_at after me (omega (arith, lt, all_whole)) in
           let s = some_at stills me (omega (arith, lt, parted.whole, all_whole)) in
           let part = parted.each me v.0 s.0 p v.1 s.1 at in
@@ -104,7 +103,7 @@ module _ {S D R : Type 0} (keeps : S → ℕ → List Batch → Running → Type
       whole = parted.whole ∙ all_whole;
       passes_whole = parted.passes_whole ∙ all_whole;
       each = λ me d s p d_at s_at p_at.
-          let lt : me < setup.replicas = omega (arith, place_within disks me d d_at, disks_whole) in
+          let lt : me < setup.replicas = omega (arith, slice_get_within disks me d d_at, disks_whole) in
           let v = some_at after me (omega (arith, lt, all_whole)) in
           let b = before_at me v.0 v.1 in
           is_over keeps shows standing setup work web me d b.0 v.0 s p (opened.each me d b.0 d_at b.1) (b.2, b.3)

@@ -1,5 +1,6 @@
 -- Replicas that take what was left for them, one after the other, and end.
 use Rattle.std.proofs.Common.{◌≡◌, ◌≢◌, ◌⊎◌, inl, inr, ℕ, zero, suc, ◌+◌, ◌<◌, List, [], ◌∷◌, ◌++◌, length, length-set, map, refl, sym, ap, subst, ◌∙◌, arith}
+use Rattle.std.proofs.lemmas.Option.{slice_get_within}
 use Rattle.std.specs.Prelude.{slice_get, slice_index_or, slice_set, Some, IsTrue}
 use Rattle.std.proofs.lemmas.Bool.{cases_eq}
 use Rattle.std.proofs.lemmas.List.{length-append, length-map, map-append}
@@ -18,9 +19,8 @@ use Rattle.replica_node.specs.Steps.{plain}
 use Rattle.replica_node.specs.declared.still.Still.{Still}
 use Rattle.client_runs.specs.Serving.{takes_of}
 use Rattle.request_workers.specs.Taking.{AreAllStill, AreFinished, CanAllTake, CanTake, HasTaken, HaveTaken, to_take}
-use Rattle.request_workers.proofs.Finished.{some_at, some_same}
+use Rattle.client_runs.proofs.Joined.{some_at, some_same}
 use Rattle.request_workers.proofs.Handed.{one_more}
-use Rattle.request_workers.proofs.Taking.{place_within}
 
 -- what is found at a place is there
 pub found_at : {X : Type 0} (xs : List X) (k : ℕ) (none x : X) → k < length xs → x ≡ slice_index_or xs k none → slice_get xs k ≡ Some x
@@ -57,7 +57,7 @@ module _ {S D : Type 0} (keeps : S → ℕ → List Batch → Running → Type 0
         whole = length-set now many after ∙ have.whole;
         each = λ me before new its lt old_at new_at its_at. elim (cases_eq me many) [
           | inl here ↦
-              let within : many < length now = omega (arith, place_within now many s s_at) in
+              let within : many < length now = omega (arith, slice_get_within now many s s_at) in
               let new_is : after ≡ new = some_same after new (sym (get_set_same now many after within) ∙ ap (slice_get (slice_set now many after)) (sym here) ∙ new_at) in
               let before_is : s ≡ before = some_same s before (sym s_is ∙ ap (slice_get old) (sym here) ∙ old_at) in
               let its_is : lists ≡ its = some_same lists its (sym lists_at ∙ ap (slice_get left) (sym here) ∙ its_at) in
@@ -74,7 +74,7 @@ module _ {S D : Type 0} (keeps : S → ℕ → List Batch → Running → Type 0
   pub can_finish : (old now : List (Still S D)) → CanAllTake keeps setup left old → HaveTaken keeps shows setup setup.replicas left old now → AreAllStill keeps setup now
   can_finish old now can have = record {
     each = λ me s at.
-        let lt : me < setup.replicas = omega (arith, place_within now me s at, have.whole, can.whole) in
+        let lt : me < setup.replicas = omega (arith, slice_get_within now me s at, have.whole, can.whole) in
         let before = some_at old me (omega (arith, lt, can.whole)) in
         let lists = some_at left me (omega (arith, lt, can.left_whole)) in
         let could : CanTake keeps setup me lists.0 before.0 = can.each me before.0 lists.0 before.1 lists.1 in

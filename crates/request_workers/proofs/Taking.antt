@@ -1,5 +1,6 @@
 -- A replica that takes what was left for it, replica by replica.
 use Rattle.std.proofs.Common.{◌≡◌, ◌≢◌, inl, inr, ℕ, zero, suc, ◌+◌, ◌<◌, ◌≤◌, List, [], ◌∷◌, ◌++◌, length, refl, sym, ap, subst, ◌∙◌, arith, eq-eqb, ne_eqb}
+use Rattle.std.proofs.lemmas.Option.{slice_get_within}
 use Rattle.std.specs.Prelude.{replicate, slice_get, slice_index_or, Some, None, if◌then◌else◌}
 use Rattle.std.specs.List.{AllByRecursion}
 use Rattle.std.proofs.lemmas.Bool.{cases_eq, cases_lt}
@@ -22,6 +23,7 @@ use Rattle.replica_node.specs.Steps.{plain}
 use Rattle.replica_node.specs.declared.still.Still.{Still}
 use Rattle.replica_node.proofs.Grown.{hand_at}
 use Rattle.client_runs.specs.Serving.{Found, IsNumbered, asked_in, takes_of}
+use Rattle.request_workers.proofs.Handed.{next_there}
 use Rattle.request_workers.specs.Taking.{CanTake, HasTaken, TakesFrom, TakesFronts, to_take}
 
 -- ---- lists
@@ -35,21 +37,9 @@ index_is [] k x none is = absurd cc
 index_is (y ∷ xs) zero x none is = cc
 index_is (y ∷ xs) (suc k) x none is = index_is xs k x none is
 
-pub place_within : {X : Type 0} (xs : List X) (k : ℕ) (x : X) → slice_get xs k ≡ Some x → k < length xs
-place_within [] k x is = absurd cc
-place_within (y ∷ xs) zero x is = omega arith
-place_within (y ∷ xs) (suc k) x is = omega (arith, place_within xs k x is)
-
--- what is next in a list of which this front was taken
-next_at : {X : Type 0} (all front left behind : List X) (x : X) → front ++ left ≡ all → left ≡ x ∷ behind → slice_get all (length front) ≡ Some x
-next_at all [] left behind x is split = subst (λ xs. slice_get xs 0 ≡ Some x) (sym split ∙ is) refl
-next_at all (y ∷ front) left behind x is split = subst (λ xs. slice_get xs (length (y ∷ front)) ≡ Some x) is (next_at (front ++ left) front left behind x refl split)
-
+-- what is next in a list of which so many were taken
 pub at_next : {X : Type 0} (all front left behind : List X) (x : X) (k : ℕ) → k ≡ length front → front ++ left ≡ all → left ≡ x ∷ behind → slice_get all k ≡ Some x
-at_next all front left behind x k at is split = subst (λ i. slice_get all i ≡ Some x) (sym at) (next_at all front left behind x is split)
-
-pub next_behind : {X : Type 0} (all front left behind : List X) (x : X) → front ++ left ≡ all → left ≡ x ∷ behind → (front ++ x ∷ []) ++ behind ≡ all
-next_behind all front left behind x is split = append_assoc front (x ∷ []) behind ∙ ap (λ xs. front ++ xs) (sym split) ∙ is
+at_next all front left behind x k at is split = subst (λ i. slice_get all i ≡ Some x) (sym at) (next_there all front left behind x is split)
 
 -- ---- the takes of one replica's messages
 
@@ -218,7 +208,7 @@ module _ {S D : Type 0} (keeps : S → ℕ → List Batch → Running → Type 0
   pub ready_next : (n : ℕ) (left : List Message) (old now : Still S D) → CanTake keeps setup me lists old → HasTaken keeps shows setup me n lists old now → slice_get lists n ≡ Some left → IsReadyFor n left now
   ready_next n left old now can h at =
       let t = h.takes can.taken can.put can.own in
-      let lt : n < setup.replicas = omega (arith, place_within lists n left at, can.whole) in
+      let lt : n < setup.replicas = omega (arith, slice_get_within lists n left at, can.whole) in
       let many : ℕ → ℕ = λ peer. length (to_take old lists peer) in
       let here : slice_index_or lists n [] ≡ left = index_is lists n left [] at in
       let held : in_hand now.hands n ≡ in_hand old.hands n = h.held n (omega arith) in

@@ -1,5 +1,6 @@
 -- What a telling bay tells of a run.
-use Rattle.std.proofs.Common.{◌≡◌, ℕ, zero, suc, ◌+◌, ◌<◌, ◌≤◌, List, [], ◌∷◌, length, sym, ap, subst, ◌∙◌, arith}
+use Rattle.std.proofs.Common.{◌≡◌, ℕ, ◌+◌, ◌<◌, ◌≤◌, List, length, sym, ap, subst, ◌∙◌, arith}
+use Rattle.std.proofs.lemmas.Option.{slice_get_within}
 use Rattle.std.specs.Prelude.{slice_get, Some, Bool, IsTrue, map}
 use Rattle.ind_disk.specs.Bay.{CameBack, returned_of, with_one}
 use Rattle.ind_disk.specs.Disk.{Standing as DiskStanding}
@@ -20,14 +21,10 @@ use Rattle.replica_course.specs.declared.heard.Heard.{Heard}
 use Rattle.replica_course.specs.Courses.{HasStops, failures, history_of, local_of, running_of}
 use Rattle.replica_world.specs.Links.{sendings_at}
 use Rattle.replica_world.specs.Worlds.{AreRunning, HasStopsAt}
-use Rattle.request_workers.specs.Histories.{BayTells, ComesBack, HasJournal, HasSpent, stops_of, ups_of}
+use Rattle.client_runs.specs.Serving.{ups_of}
+use Rattle.request_workers.specs.Histories.{BayTells, ComesBack, HasJournal, HasSpent, stops_of}
 use Rattle.request_workers.specs.Handing.{AreBack, AreHanded}
-use Rattle.request_workers.proofs.Finished.{mapped, some_at, some_same}
-
-place_within : {X : Type 0} (xs : List X) (k : ℕ) (x : X) → slice_get xs k ≡ Some x → k < length xs
-place_within [] k x is = absurd cc
-place_within (y ∷ xs) zero x is = omega arith
-place_within (y ∷ xs) (suc k) x is = omega (arith, place_within xs k x is)
+use Rattle.client_runs.proofs.Joined.{mapped, some_at, some_same}
 
 -- the disks at the end, with the storages that they were of: each is the journal of its replica
 pub record AreDisksOf {D S : Type 0} (standing : D → DiskStanding) (shows : S → Shown) (setup : Setup) (courses : List Course) (storages : List S) (disks : List D) : Type 0 where
@@ -60,7 +57,7 @@ bay_tells {B} {D} {S} standing may_leave tells has_given given left shows setup 
       stops = λ r up is.
           let one = mapped (λ (k : History). k.first_up) (map (history_of setup) courses) r up is in
           let c = mapped (history_of setup) courses r one.0 one.1 in
-          let lt : r < setup.replicas = omega (arith, place_within courses r c.0 c.1, h.whole) in
+          let lt : r < setup.replicas = omega (arith, slice_get_within courses r c.0 c.1, h.whole) in
           let d : D = (disk_at r lt).0 in
           let same : (shows (storage_at r lt).0).stops_left ≡ (standing d).stops_left = ap (λ (s : Shown). s.stops_left) (shown r lt) in
           let few : failures c.0.first_up c.0.entries + (standing d).stops_left ≤ length (stops_of r lines) = omega (arith, (has_stops r c.0 lt c.1).few, same) in
@@ -68,7 +65,7 @@ bay_tells {B} {D} {S} standing may_leave tells has_given given left shows setup 
           let here : Spent c.0.first_up c.0.entries = (returned_of (standing d), came_back r c.0 lt c.1, few) in
           subst (Spent up) (sym (merged.each r one.0 one.1 ∙ ap (λ (k : History). k.entries) c.2)) (subst (λ (b : Bool). Spent b c.0.entries) (sym (one.2 ∙ ap (λ (k : History). k.first_up) c.2)) here);
       journals = λ r p at.
-          let lt : r < setup.replicas = omega (arith, place_within h.world r p at, h.world_whole) in
+          let lt : r < setup.replicas = omega (arith, slice_get_within h.world r p at, h.world_whole) in
           let c = some_at courses r (omega (arith, lt, h.whole)) in
           let d : D = (disk_at r lt).0 in
           let l : Local = local_of setup.replicas (sendings_at h.world r) c.0 in

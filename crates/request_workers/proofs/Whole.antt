@@ -1,5 +1,6 @@
 -- What replicas did that served clients, with their closing takes, and their disks.
 use Rattle.std.proofs.Common.{◌≡◌, ◌≢◌, ◌⊎◌, inl, inr, ℕ, ◌+◌, ◌-◌, ◌*◌, ◌<◌, ◌≤◌, List, [], ◌∷◌, ◌++◌, length, map, refl, sym, ap, subst, ◌∙◌, arith}
+use Rattle.std.proofs.lemmas.Option.{slice_get_within}
 use Rattle.std.specs.Prelude.{slice_get, slice_index, Some}
 use Rattle.std.specs.List.{AllByRecursion}
 use Rattle.std.specs.Option.{option_map_or}
@@ -30,11 +31,10 @@ use Rattle.client_asks.specs.Asking.{ClientWork, courier_asks, sends_in}
 use Rattle.client_runs.specs.Alone.{HaveServed, ServesAlone}
 use Rattle.client_runs.specs.Serving.{asked_in}
 use Rattle.client_runs.proofs.Counted.{sends_are}
-use Rattle.client_runs.proofs.Joined.{takes_same}
+use Rattle.client_runs.proofs.Joined.{mapped, some_at, some_same, takes_same}
 use Rattle.request_workers.specs.Taking.{AreFinished, HasRun, HasTaken, HaveTaken, TakesFronts, to_take}
-use Rattle.request_workers.proofs.Finished.{mapped, some_at, some_same}
 use Rattle.request_workers.proofs.Over.{AreOver, IsOver, alone_fits, sends_same}
-use Rattle.request_workers.proofs.Taking.{both_all, index_is, place_within}
+use Rattle.request_workers.proofs.Taking.{both_all, index_is}
 
 -- ---- no link was full
 
@@ -141,7 +141,7 @@ module _ {S D : Type 0} (keeps : S → ℕ → List Batch → Running → Type 0
     courses_long = length-map nows (λ (s : Still S D). s.course) ∙ took.whole ∙ over.whole
 
     course_within : (me : ℕ) (c : Course) → slice_get courses me ≡ Some c → me < setup.replicas
-    course_within me c is = omega (arith, place_within courses me c is, courses_long)
+    course_within me c is = omega (arith, slice_get_within courses me c is, courses_long)
 
     -- it ran by itself
     runs_by : (me : ℕ) (c : Course) → slice_get courses me ≡ Some c → (place : (me < setup.replicas) ⊎ (setup.replicas ≤ me)) → (sendings : List Sending) × RunsAlone setup me c.first_up (taken_by me place) (put_all me) c.entries (local_of setup.replicas sendings c)
@@ -206,7 +206,7 @@ module _ {S D : Type 0} (keeps : S → ℕ → List Batch → Running → Type 0
           closing = adds.closing;
           parts = adds.entries;
           asked = h.turns_over.asked;
-          closed = adds.asked ∙ takes_same (λ peer. length (to_take h.before h.lists peer)) (λ peer. length (put_all peer me) - gots_in peer h.before.course.entries) me setup.replicas (takes_are counts me h);
+          closing_asked = adds.asked ∙ takes_same (λ peer. length (to_take h.before h.lists peer)) (λ peer. length (put_all peer me) - gots_in peer h.before.course.entries) me setup.replicas (takes_are counts me h);
           found = adds.found;
         })
 

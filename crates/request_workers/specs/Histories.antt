@@ -15,10 +15,7 @@ use Rattle.rights_journal.specs.Image.{IsFinished, StandsFor}
 use Rattle.batch_storage.specs.Held.{IsLeftBy}
 use Rattle.replica_course.specs.Courses.{failures}
 use Rattle.scenario_text.specs.declared.document.StopLine.{StopLine}
-
--- which replicas were up at first
-abbrev pub ups_of : List History → List Bool
-ups_of histories = map (λ h. h.first_up) histories
+use Rattle.client_runs.specs.Serving.{ups_of}
 
 -- one history for each replica, whose entries in one order are a legal run of the schedule from the world in which those that were up are up, which is sound at each step and leaves this world; each ends as its replica does
 pub record AreLegal (setup : Setup) (schedule : List Order) (histories : List History) (world : World) : Type 0 where

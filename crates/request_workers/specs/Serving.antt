@@ -8,7 +8,8 @@ use Rattle.run_trace.specs.Merging.{AreHistories, IsMerged}
 use Rattle.scenario_text.specs.declared.document.StopLine.{StopLine}
 use Rattle.client_asks.specs.Asking.{ClientWork}
 use Rattle.client_runs.specs.Serving.{IsServedRun}
-use Rattle.request_workers.specs.Histories.{BayTells, Bays, ups_of}
+use Rattle.client_runs.specs.Serving.{ups_of}
+use Rattle.request_workers.specs.Histories.{BayTells, Bays}
 
 -- entries that are a legal run of the clients' work, sound at each step, which leaves the replicas as their histories say; and what a telling bay tells of it
 pub record IsToldRun (setup : Setup) (work : ClientWork) (lines : List StopLine) (histories : List History) (entries : List StepEntry) (bays : Bays) : Type 0 where

@@ -7,7 +7,8 @@ ghost use Rattle.run_model.specs.Worlds.{World as WorldOf};
 ghost use Rattle.run_trace.specs.Merging.{IsMerged};
 ghost use Rattle.scenario_text.specs.WellFormed.{ScheduleFits};
 ghost use Rattle.replica_world.specs.Worlds.{AreKept, AreRunning, HasStopsAt};
-ghost use Rattle.request_workers.specs.Histories.{AreLegal, BayTells, ups_of};
+ghost use Rattle.client_runs.specs.Serving.{ups_of};
+ghost use Rattle.request_workers.specs.Histories.{AreLegal, BayTells};
 
 use crate::disks::{disks_of, give_back};
 use batch_storage::{Journaled, Storage};

@@ -1,6 +1,7 @@
 use Rattle.std.proofs.Common.{length, sym, subst}
 use Rattle.run_trace.specs.Merging.{IsMerged}
-use Rattle.request_workers.specs.Histories.{AreLegal, BayTells, stops_of, ups_of}
+use Rattle.client_runs.specs.Serving.{ups_of}
+use Rattle.request_workers.specs.Histories.{AreLegal, BayTells, stops_of}
 use Rattle.request_workers.proofs.Finished.{legal}
 use Rattle.request_workers.proofs.Told.{bay_tells}
 use Rattle.request_workers.proofs.simulation.simulate.Goals as goal
