@@ -1,18 +1,20 @@
 -- The variables of a query are apart, so each has one place.
-use Rattle.std.proofs.Common.{◌≡◌, inl, inr, ℕ, zero, suc, ◌<◌, Bool, true, false, ◌||◌, ◌&&◌, cond, List, [], ◌∷◌, ◌++◌, length, get_or, map, refl, sym, ap, subst, ◌∙◌, arith}
+use Rattle.std.proofs.Common.{◌≡◌, inl, inr, ℕ, zero, suc, ◌+◌, ◌<◌, Bool, true, false, ◌||◌, ◌&&◌, cond, List, [], ◌∷◌, ◌++◌, length, get_or, take, drop, map, refl, sym, ap, subst, ◌∙◌, arith}
 use Rattle.std.specs.Prelude.{Some, slice_get}
 use Rattle.std.specs.List.{list_any, flat_map, AllByRecursion}
 use Rattle.std.proofs.lemmas.Bool.{cases_Bool, true≢false}
-use Rattle.std.proofs.lemmas.List.{length-map}
+use Rattle.std.proofs.lemmas.List.{length-map, map-append, take_more}
 use Rattle.std.proofs.lemmas.Map.Keys.{any_passes_from_place}
 use Rattle.std.proofs.lemmas.Option.{slice_get-get_or, slice_get_within, get_or_from_slice_get}
 use Rattle.ground_clauses.proofs.Lists.{each_weaker}
-use Rattle.ground_clauses.proofs.Numbers.{same_atom-true, same_atom_itself, same_variable-true}
+use Rattle.ground_clauses.proofs.Numbers.{same_atom-true, same_atom_itself, same_moment-true, same_variable-true}
 use Rattle.ground_clauses.proofs.Parts.{any_append}
+use Rattle.ground_clauses.proofs.Reaches.{at_place}
 use Rattle.ground_clauses.specs.Query.{Hypothesis, Sets, atom_variables, atoms_of, dedup_after, entry_at, entry_variables, index_of, instance_atoms, same_atom, same_moment, same_variable, variable, winner}
-use Rattle.ground_clauses.specs.Rows.{AreApart, IsRow, touches_at}
+use Rattle.ground_clauses.specs.Rows.{AreApart, IsRow, entry_seen, row_atom, touches_at}
 use Rattle.ground_clauses.specs.declared.queries.Asked.{Asked}
 use Rattle.ground_clauses.specs.declared.rows.Row.{Row}
+use Rattle.ground_clauses.specs.declared.rows.Seen.TheVariants.{Same as SeenSame}
 use Rattle.ground_clauses.specs.declared.state_lit.Variable.{Variable}
 use Rattle.ground_clauses.specs.declared.table.Touches.{Touches}
 use Rattle.spec_model.specs.Stable.{touch_of}
@@ -41,8 +43,23 @@ each_at P (y ∷ ys) (suc i) x h is = each_at P ys i x h.1 is
 pub row_there : (q : Asked) (rows : List Row) (i : ℕ) (r : Row) → AllByRecursion (IsRow q) rows → slice_get rows i ≡ Some r → IsRow q r
 row_there q rows i r h is = each_at (IsRow q) rows i r h is
 
+pub row_at : (q : Asked) (rows : List Row) (i : ℕ) (d : Row) → AllByRecursion (IsRow q) rows → i < length rows → IsRow q (get_or rows i d)
+row_at q [] i d h lt = absurd (omega arith)
+row_at q (r ∷ rows) zero d h lt = h.0
+row_at q (r ∷ rows) (suc i) d h lt = row_at q rows i d h.1 (omega arith)
+
+pub rows_more : (rows : List Row) (r : Row) (atoms : List ClassAtom) (i : ℕ) (d : ClassAtom) → i < length atoms → map row_atom rows ≡ take i atoms → r.atom ≡ get_or atoms i d → map row_atom (rows ++ r ∷ []) ≡ take (i + 1) atoms
+rows_more rows r atoms i d lt before is = map-append row_atom rows (r ∷ []) ∙ ap (λ xs. xs ++ r.atom ∷ []) before ∙ ap (λ a. take i atoms ++ a ∷ []) is ∙ sym (take_more atoms i d lt)
+
+pub rows_step : {Y : Type 0} (f : ClassAtom → List Y) (rows : List Row) (i : ℕ) (d : Row) → i < length rows → flat_map f (map row_atom (drop i rows)) ≡ f (get_or rows i d).atom ++ flat_map f (map row_atom (drop (i + 1) rows))
+rows_step f rows i d lt = at_place (λ rs. flat_map f (map row_atom rs) ≡ f (get_or rows i d).atom ++ flat_map f (map row_atom (drop (i + 1) rows))) rows i d lt refl
+
 pub atom_same : (a : ClassAtom) (r : Row) → same_atom a r.atom ≡ true → r.atom ≡ a
 atom_same a r h = sym (same_atom-true a r.atom h)
+
+-- what is seen already is what this entry says
+pub seen_again : (m k : Moment) (n : ℕ) → same_moment m k ≡ true → entry_seen (SeenSame k n) ≡ Same m
+seen_again m k n same = ap Same (sym (same_moment-true m k same))
 
 -- ---- what the operations do to each atom
 

@@ -103,6 +103,15 @@ meets_parts atoms c cs =
     ∙ ap (λ b. b || list_any (λ l. list_any (λ a. list_any (same_atom a) atoms) (literal_atoms cs l.literal)) (map (signed true) c.conclusion)) (shared_literals atoms cs false c.premise)
     ∙ ap (λ b. list_any (is_shared atoms cs) c.premise || b) (shared_literals atoms cs true c.conclusion))
 
+and_turned : (b c : Bool) → (b && c) ≡ (c && b)
+and_turned true true = refl
+and_turned true false = refl
+and_turned false true = refl
+and_turned false false = refl
+
+pub meets_apart : (atoms : List ClassAtom) (c : Clause) (cs : List ℕ) → meets atoms (over c cs) ≡ (not (equalities_true (over c cs)) && (list_any (is_shared atoms cs) c.premise || list_any (is_shared atoms cs) c.conclusion))
+meets_apart atoms c cs = meets_parts atoms c cs ∙ and_turned (list_any (is_shared atoms cs) c.premise || list_any (is_shared atoms cs) c.conclusion) (not (equalities_true (over c cs)))
+
 -- ---- variables
 
 pub four_variables : (a : ClassAtom) (t : Touches) (xs : List Variable)

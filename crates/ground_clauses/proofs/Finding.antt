@@ -1,24 +1,19 @@
 -- Instances of a clause, found one class after the other.
-use Rattle.std.proofs.Common.{◌≡◌, ℕ, zero, suc, ◌+◌, ◌<◌, ◌≤◌, Bool, true, false, ◌||◌, ◌&&◌, not, eqb, cond, List, [], ◌∷◌, ◌++◌, map, length, get_or, drop, refl, sym, ap, append_assoc, append-nil, ◌∙◌, arith}
-use Rattle.std.specs.List.{list_any, flat_map, filter, AllByRecursion}
+use Rattle.std.proofs.Common.{◌≡◌, ℕ, zero, suc, ◌+◌, ◌<◌, ◌≤◌, Bool, cond, List, [], ◌∷◌, ◌++◌, map, length, get_or, drop, refl, sym, ap, append_assoc, append-nil, ◌∙◌, arith}
+use Rattle.std.specs.List.{flat_map, filter, AllByRecursion}
 use Rattle.std.proofs.lemmas.List.{map-append}
 use Rattle.std.proofs.lemmas.List.Elements.{filter-append}
 use Rattle.std.proofs.lemmas.Grind.{flat_map-append}
-use Rattle.std.proofs.lemmas.Bool.{true≢false}
-use Rattle.ground_clauses.proofs.Building.{meets_parts}
 use Rattle.ground_clauses.proofs.Lists.{each_weaker}
 use Rattle.ground_clauses.proofs.Seen.{few}
-use Rattle.ground_clauses.specs.Cases.{assignments, case_hypotheses, class_count, classes_in, equalities_true, over, pattern_sorts, sorts_of, target_of, upto_from}
-use Rattle.ground_clauses.specs.Instances.{clause_instances, found_from, is_shared, meets, names_pred}
-use Rattle.ground_clauses.specs.Query.{Hypothesis, atom_of, instance_atoms, same_atom, same_list}
+use Rattle.ground_clauses.specs.Cases.{assignments, case_hypotheses, class_count, classes_in, over, pattern_sorts, sorts_of, target_of, upto_from}
+use Rattle.ground_clauses.specs.Instances.{clause_instances, found_from, meets}
+use Rattle.ground_clauses.specs.Query.{Hypothesis, instance_atoms}
 use Rattle.ground_clauses.specs.declared.case.Case.{Case}
 use Rattle.ground_clauses.specs.declared.instances.Search.{Search}
 use Rattle.spec_model.specs.Fits.{ClauseFits, IsWellFormed}
-use Rattle.spec_model.specs.Truths.{values, var_sorts}
+use Rattle.spec_model.specs.Truths.{var_sorts}
 use Rattle.spec_model.specs.declared.clause.Clause.{Clause}
-use Rattle.spec_model.specs.declared.clause.Literal.{Literal}
-use Rattle.spec_model.specs.declared.clause.Literal.TheVariants.{Atom, Equal}
-use Rattle.spec_model.specs.declared.instance.Atom.{Atom as ClassAtom}
 use Rattle.spec_model.specs.declared.clause.Var.{Var}
 use Rattle.spec_model.specs.declared.spec.Spec.{Spec}
 
@@ -75,46 +70,7 @@ map_empty (x ∷ xs) = ap (λ ys. x ∷ ys) (map_empty xs)
 pub found_clause : (s : Search) (c : Clause) → found_from s c [] c.vars ≡ clause_instances s c
 found_clause s c = ap (λ xs. filter (meets s.target.now) (map (over c) xs)) (map_empty (assignments (class_count s.sorts.now s.classes.now) (var_sorts c)))
 
--- ---- a clause that has no predicate of the target's
-
-both_none : (b c : Bool) → (b || c) ≡ false → (b ≡ false) × (c ≡ false)
-both_none false c h = (refl, h)
-both_none true c h = absurd (true≢false h)
-
-either_none : (b c : Bool) → b ≡ false → c ≡ false → (b || c) ≡ false
-either_none b c one other = ap (λ x. x || c) one ∙ other
-
-no_atom : (atoms : List ClassAtom) (a : ClassAtom) → list_any (λ b. eqb a.pred b.pred) atoms ≡ false → list_any (same_atom a) atoms ≡ false
-no_atom [] a h = refl
-no_atom (b ∷ atoms) a h =
-    let p : (eqb a.pred b.pred ≡ false) × (list_any (λ b. eqb a.pred b.pred) atoms ≡ false) = both_none (eqb a.pred b.pred) (list_any (λ b. eqb a.pred b.pred) atoms) h in
-    either_none (same_atom a b) (list_any (same_atom a) atoms) (ap (λ t. t && same_list a.args b.args) p.0) (no_atom atoms a p.1)
-
-none_shared : (atoms : List ClassAtom) (cs : List ℕ) (l : Literal) → names_pred atoms l ≡ false → is_shared atoms cs l ≡ false
-none_shared atoms cs (Atom p vars) h = no_atom atoms (atom_of p (values cs vars)) h
-none_shared atoms cs (Equal l r) h = refl
-
-none_of_these : (atoms : List ClassAtom) (cs : List ℕ) (ls : List Literal) → list_any (names_pred atoms) ls ≡ false → list_any (is_shared atoms cs) ls ≡ false
-none_of_these atoms cs [] h = refl
-none_of_these atoms cs (l ∷ ls) h =
-    let p : (names_pred atoms l ≡ false) × (list_any (names_pred atoms) ls ≡ false) = both_none (names_pred atoms l) (list_any (names_pred atoms) ls) h in
-    either_none (is_shared atoms cs l) (list_any (is_shared atoms cs) ls) (none_shared atoms cs l p.0) (none_of_these atoms cs ls p.1)
-
-none_meets : (atoms : List ClassAtom) (c : Clause) (cs : List ℕ) → list_any (names_pred atoms) c.premise ≡ false → list_any (names_pred atoms) c.conclusion ≡ false → meets atoms (over c cs) ≡ false
-none_meets atoms c cs one other =
-    meets_parts atoms c cs
-    ∙ ap (λ b. b && not (equalities_true (over c cs)))
-    (either_none (list_any (is_shared atoms cs) c.premise) (list_any (is_shared atoms cs) c.conclusion) (none_of_these atoms cs c.premise one) (none_of_these atoms cs c.conclusion other))
-
-none_kept : (atoms : List ClassAtom) (c : Clause) (css : List (List ℕ)) → list_any (names_pred atoms) c.premise ≡ false → list_any (names_pred atoms) c.conclusion ≡ false → filter (meets atoms) (map (over c) css) ≡ []
-none_kept atoms c [] one other = refl
-none_kept atoms c (cs ∷ css) one other =
-    ap (λ b. cond b (over c cs ∷ filter (meets atoms) (map (over c) css)) (filter (meets atoms) (map (over c) css))) (none_meets atoms c cs one other) ∙ none_kept atoms c css one other
-
-pub none_found : (s : Search) (c : Clause) (xs : List Hypothesis) → (list_any (names_pred s.target.now) c.premise || list_any (names_pred s.target.now) c.conclusion) ≡ false → xs ≡ xs ++ clause_instances s c
-none_found s c xs h =
-    let p : (list_any (names_pred s.target.now) c.premise ≡ false) × (list_any (names_pred s.target.now) c.conclusion ≡ false) = both_none (list_any (names_pred s.target.now) c.premise) (list_any (names_pred s.target.now) c.conclusion) h in
-    sym (append-nil xs) ∙ ap (λ ys. xs ++ ys) (sym (none_kept s.target.now c (assignments (class_count s.sorts.now s.classes.now) (var_sorts c)) p.0 p.1))
+-- ---- the clauses of a specification
 
 pub few_at : (clauses : List Clause) (i : ℕ) (d : Clause) → AllByRecursion (λ c. length c.vars ≤ 4) clauses → i < length clauses → length (get_or clauses i d).vars ≤ 4
 few_at [] i d h lt = absurd (omega arith)

@@ -18,6 +18,7 @@ pub mod Named
 pub mod Numbers
 pub mod Once
 pub mod Parts
+pub mod Pruning
 pub mod Reaches
 pub mod Refuted
 pub mod Seen
@@ -25,6 +26,7 @@ pub mod Shapes
 pub mod Shown
 pub mod Speaking
 pub mod Stands
+pub mod ThreeStates
 pub mod Totals
 pub mod TrueForms
 pub mod Untouched

@@ -80,7 +80,7 @@ same_lit-true x y h =
     let k = and_parts (same_variable x.var y.var) (beq x.yes y.yes) h in
     ap (λ v. state_lit v x.yes) (same_variable-true x.var y.var k.0) ∙ ap (λ b. state_lit y.var b) (beq-true x.yes y.yes k.1)
 
-same_variable_itself : (x : Variable) → same_variable x x ≡ true
+pub same_variable_itself : (x : Variable) → same_variable x x ≡ true
 same_variable_itself x = and_from (same_atom x.atom x.atom) (same_moment x.moment x.moment) (same_atom_itself x.atom) (same_moment_itself x.moment)
 
 -- an atom's own variable is among its variables

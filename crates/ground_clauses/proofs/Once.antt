@@ -16,6 +16,9 @@ use Rattle.spec_model.specs.declared.instance.Atom.{Atom as ClassAtom}
 pub found_at : (a other : ClassAtom) (atoms : List ClassAtom) (i : ℕ) → slice_get atoms i ≡ Some other → same_atom a other ≡ true → list_any (same_atom a) atoms ≡ true
 found_at a other atoms i is same = any_passes_from_place (same_atom a) atoms i other is same
 
+pub there_already : (a : ClassAtom) (once : List ClassAtom) → list_any (same_atom a) once ≡ true → once ≡ with_one once a
+there_already a once h = sym (ap (λ b. cond b once (once ++ a ∷ [])) h)
+
 with_append : (once xs ys : List ClassAtom) → with_all once (xs ++ ys) ≡ with_all (with_all once xs) ys
 with_append once [] ys = refl
 with_append once (x ∷ xs) ys = with_append (with_one once x) xs ys

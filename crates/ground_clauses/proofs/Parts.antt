@@ -1,17 +1,19 @@
 -- Clauses by their premise and conclusion.
-use Rattle.std.proofs.Common.{◌≡◌, ℕ, ◌<◌, Bool, true, false, ◌||◌, List, [], ◌∷◌, ◌++◌, length, drop, map, refl, sym, ap, ◌∙◌, arith}
-use Rattle.std.specs.Prelude.{Option, is_some}
+use Rattle.std.proofs.Common.{◌≡◌, ℕ, ◌+◌, ◌<◌, Bool, true, false, ◌||◌, List, [], ◌∷◌, ◌++◌, length, get_or, drop, map, refl, sym, ap, ◌∙◌, arith}
+use Rattle.std.specs.Prelude.{Option, None, Some, is_some}
 use Rattle.std.specs.List.{list_any, flat_map}
 use Rattle.ground_clauses.proofs.Lists.{any_map}
 use Rattle.ground_clauses.proofs.Reaches.{at_place}
 use Rattle.ground_clauses.specs.Cases.{equalities_true, equality_holds, equality_true, over, touches}
 use Rattle.ground_clauses.specs.Literals.{is_set}
 use Rattle.ground_clauses.specs.Query.{literal_atoms, same_list}
-use Rattle.spec_model.specs.Truths.{literals, signed, values}
+use Rattle.spec_model.specs.Truths.{line_sets, lines_set, literals, or_else, signed, terms_touch, values}
 use Rattle.spec_model.specs.declared.clause.Clause.{Clause}
 use Rattle.spec_model.specs.declared.clause.Literal.{Literal}
 use Rattle.spec_model.specs.declared.clause.Literal.TheVariants.{Atom, Equal}
 use Rattle.spec_model.specs.declared.instance.Atom.{Atom as ClassAtom}
+use Rattle.spec_model.specs.declared.operation.Line.{Line}
+use Rattle.spec_model.specs.declared.operation.Term.{Term}
 
 or_assoc : (x y z : Bool) → ((x || y) || z) ≡ (x || (y || z))
 or_assoc true y z = refl
@@ -62,3 +64,22 @@ values_end cs xs i d (y ∷ ys) lt few = absurd (omega arith)
 pub same_end : (xs : List ℕ) (i : ℕ) (d : ℕ) (ys : List ℕ) → i < length xs → length ys < 1 → false ≡ same_list (drop i xs) ys
 same_end xs i d [] lt few = at_place (λ zs. false ≡ same_list zs []) xs i d lt refl
 same_end xs i d (y ∷ ys) lt few = absurd (omega arith)
+
+-- ---- lines one after the other
+
+touches_or : (x y : Option Bool) → is_some (or_else x y) ≡ (is_some y || is_some x)
+touches_or None None = refl
+touches_or None (Some y) = refl
+touches_or (Some x) None = refl
+touches_or (Some x) (Some y) = refl
+
+pub lines_step : (has : ℕ → ℕ → Bool) (lines : List Line) (p : ℕ) (xs : List ℕ) (i : ℕ) (d : Line) → i < length lines
+    → is_some (lines_set has (drop i lines) p xs) ≡ (is_some (line_sets has p xs (get_or lines i d)) || is_some (lines_set has (drop (i + 1) lines) p xs))
+lines_step has lines p xs i d lt =
+    at_place (λ ls. is_some (lines_set has ls p xs) ≡ (is_some (line_sets has p xs (get_or lines i d)) || is_some (lines_set has (drop (i + 1) lines) p xs))) lines i d lt
+    (touches_or (lines_set has (drop (i + 1) lines) p xs) (line_sets has p xs (get_or lines i d)))
+
+-- more terms than variables
+pub short_vars : (has : ℕ → ℕ → Bool) (terms : List Term) (i : ℕ) (d : Term) (cs xs : List ℕ) → i < length terms → length xs < 1 → false ≡ terms_touch has (drop i terms) (values cs xs)
+short_vars has terms i d cs [] lt few = at_place (λ ts. false ≡ terms_touch has ts []) terms i d lt refl
+short_vars has terms i d cs (x ∷ xs) lt few = absurd (omega arith)

@@ -1,5 +1,5 @@
 -- Instances of clauses at classes, as they are looked for.
-use Rattle.std.specs.Prelude.{ℕ, Bool, false, ◌&&◌, not, if◌then◌else◌, eqb, List, [], ◌∷◌, ◌++◌, map, filter}
+use Rattle.std.specs.Prelude.{ℕ, Bool, true, false, ◌&&◌, ◌||◌, not, if◌then◌else◌, eqb, ltb, get_or, length, List, [], ◌∷◌, ◌++◌, map, filter}
 use Rattle.std.specs.List.{list_any, flat_map}
 use Rattle.ground_clauses.specs.Cases.{assignments, class_count, equalities_true, over, sorts_of}
 use Rattle.ground_clauses.specs.Query.{Hypothesis, atom_of, instance_atoms, literal_atoms, same_atom}
@@ -24,10 +24,23 @@ abbrev pub is_shared : List ClassAtom → List ℕ → Literal → Bool
 is_shared atoms cs (Atom p vars) = list_any (same_atom (atom_of p (values cs vars))) atoms
 is_shared atoms cs (Equal l r) = false
 
--- an atom whose predicate is that of one of these
-abbrev pub names_pred : List ClassAtom → Literal → Bool
-names_pred atoms (Atom p vars) = list_any (λ a. eqb p a.pred) atoms
-names_pred atoms (Equal l r) = false
+-- a variable that can have this class, where the first classes are these
+abbrev pub can_be : List ℕ → ℕ → ℕ → Bool
+can_be front v x = not (ltb v (length front)) || eqb (get_or front v 0) x
+
+abbrev pub can_agree : List ℕ → List ℕ → List ℕ → Bool
+can_agree front [] [] = true
+can_agree front [] (x ∷ xs) = false
+can_agree front (v ∷ vs) [] = false
+can_agree front (v ∷ vs) (x ∷ xs) = can_be front v x && can_agree front vs xs
+
+abbrev pub can_be_atom : ℕ → List ℕ → List ℕ → ClassAtom → Bool
+can_be_atom p front vars a = eqb p a.pred && can_agree front vars a.args
+
+-- a literal that can be one of these atoms, where the first classes are these
+abbrev pub can_share : List ClassAtom → List ℕ → Literal → Bool
+can_share atoms front (Atom p vars) = list_any (can_be_atom p front vars) atoms
+can_share atoms front (Equal l r) = false
 
 -- one of these atoms is the clause's, and its equalities don't make it true
 abbrev pub meets : List ClassAtom → Hypothesis → Bool

@@ -13,3 +13,4 @@ pub mod Numbering
 pub mod Query
 pub mod Rows
 pub mod States
+pub mod ThreeStates

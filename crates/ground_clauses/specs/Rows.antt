@@ -64,6 +64,9 @@ pub record IsRow (q : Asked) (r : Row) : Type 0 where
   pub second : IsSeen q r.atom Second r.second
   pub both : IsSeen q r.atom Both r.both
 
+abbrev pub row_atom : Row → ClassAtom
+row_atom r = r.atom
+
 pub record CanLook (k : Looking) : Type 0 where
   pub can : CanAsk k.asked
   pub apart : AreApart k.asked.variables.now

@@ -1,20 +1,21 @@
 //! The hypotheses of a query: the clauses at classes that meet its target.
 
-ghost use Rattle.std.specs.Prelude.{◌≡◌, ◌<◌, ◌≤◌, ◌+◌, ◌++◌, ◌&&◌, ◌||◌, length, map, filter, IfOk, OnOk, OnErr};
+ghost use Rattle.std.specs.Prelude.{◌≡◌, true, ◌<◌, ◌≤◌, ◌+◌, ◌++◌, ◌&&◌, ◌||◌, length, map, filter, IfOk, OnOk, OnErr};
 ghost use Rattle.std.specs.List.{list_any, flat_map, AllByRecursion};
 ghost use Rattle.spec_model.specs.Fits.{IsWellFormed};
 ghost use Rattle.spec_model.specs.Truths as truths;
 ghost use Rattle.ground_clauses.specs.Cases as cases;
 ghost use Rattle.ground_clauses.specs.Cases.{CaseKnown};
-ghost use Rattle.ground_clauses.specs.Instances.{atoms_at, clause_instances, found_from, instance_of, is_shared, meets, names_pred, with_all, with_one};
+ghost use Rattle.ground_clauses.specs.Instances.{atoms_at, clause_instances, found_from, instance_of, can_agree, can_be, can_be_atom, can_share, is_shared, meets, with_all, with_one};
 ghost use Rattle.ground_clauses.specs.Query as queries;
+ghost use Rattle.ground_clauses.specs.Query.{literal_atoms};
 
 use crate::case::Case;
 use crate::literals::{is_at, same_atom};
 use crate::pattern::{class_count, pattern_sorts};
 use crate::places::clause_at;
-use crate::slots::Slots;
-use crate::touched::{equalities_true, target_classes, values};
+use crate::slots::{Slots, code_at};
+use crate::touched::{class_at, equalities_true, target_classes, values};
 use ind_base::{List, NoMemory};
 use spec_model::{Args, Atom, Clause, Literal, Spec, Var};
 
@@ -37,14 +38,15 @@ pub(crate) fn atom_among(atom: &Atom, atoms: &[Atom]) -> bool
     false
 }
 
-/// Whether an atom is among these, where the slots name the place at which to look first.
+/// Whether the predicate's atom at the classes of these variables stands at this place: else it may
+/// stand at another.
 #[tactic(auto, using(crate::proofs::Once::found_at))]
-fn is_listed(slots: &Slots, atom: &Atom, atoms: &[Atom]) -> bool
-    ensures { result ≡ list_any (queries.same_atom atom.now) atoms.now }
+fn stands_at(atoms: &[Atom], place: usize, pred: u32, classes: &[u32], vars: &[u32]) -> bool
+    ensures { result ≡ true → list_any (queries.same_atom (queries.atom_of pred (truths.values classes.now vars.now))) atoms.now ≡ true }
 {
-    match atoms.get(slots.hint(atom)) {
-        Some(other) if same_atom(atom, other) => true,
-        _ => atom_among(atom, atoms),
+    match atoms.get(place) {
+        Some(other) => is_at(other, pred, classes, vars),
+        None => false,
     }
 }
 
@@ -111,13 +113,13 @@ fn shares_any(target: &[Atom], literals: &[Literal], classes: &[u32]) -> bool
 }
 
 /// Whether the clause at the classes meets one of the target's atoms, and isn't true by equalities.
-#[tactic(auto, using(crate::proofs::Building::meets_parts))]
+#[tactic(auto, using(crate::proofs::Building::meets_apart))]
 fn meets_target(target: &[Atom], clause: &Clause, classes: &[u32]) -> bool
     ensures { result ≡ meets target.now (cases.over clause.now classes.now) }
 {
-    (shares_any(target, clause.premise.as_slice(), classes)
-        || shares_any(target, clause.conclusion.as_slice(), classes))
-        && !equalities_true(clause, classes)
+    !equalities_true(clause, classes)
+        && (shares_any(target, clause.premise.as_slice(), classes)
+            || shares_any(target, clause.conclusion.as_slice(), classes))
 }
 
 /// What the hypotheses of a case are looked for by: the pattern's sorts and classes, and the atoms
@@ -129,8 +131,78 @@ pub(crate) struct Search<'a> {
     pub(crate) target: &'a [Atom],
 }
 
+/// Whether the variable at this place can have this class, where the first classes are these.
+fn may_be(front: &[u32], var: u32, class: u32) -> bool
+    ensures { result ≡ can_be front.now var class }
+{
+    !((var as usize) < front.len()) || class_at(front, var) == class
+}
+
+/// Whether these variables can have these classes, where the first classes are these.
+#[tactic(auto, using(crate::proofs::Pruning::agree_step, crate::proofs::Pruning::agree_end))]
+fn may_agree(front: &[u32], vars: &[u32], args: &[u32]) -> bool
+    ensures { result ≡ can_agree front.now vars.now args.now }
+{
+    let mut left = args;
+    for var in vars {
+        let [class, rest @ ..] = left else {
+            return false;
+        };
+        if !may_be(front, *var, *class) {
+            return false;
+        }
+        left = rest;
+    }
+    left.is_empty()
+}
+
+/// Whether the predicate's atom at these variables can be one of these, where the first classes are
+/// these.
+fn values_may_be(pred: u32, front: &[u32], vars: &[u32], atoms: &[Atom]) -> bool
+    ensures { result ≡ list_any (can_be_atom pred front.now vars.now) atoms.now }
+{
+    for atom in atoms {
+        if pred == atom.pred && may_agree(front, vars, atom.args.as_slice()) {
+            return true;
+        }
+    }
+    false
+}
+
+/// Whether a literal can be one of the target's atoms, where the first classes are these.
+fn may_share(target: &[Atom], literal: &Literal, front: &[u32]) -> bool
+    ensures { result ≡ can_share target.now front.now literal.now }
+{
+    match literal {
+        Literal::Atom { pred, vars } => values_may_be(*pred, front, vars.as_slice(), target),
+        Literal::Equal { .. } => false,
+    }
+}
+
+/// Whether some of these literals can be one of the target's atoms, where the first classes are
+/// these.
+fn may_share_any(target: &[Atom], literals: &[Literal], front: &[u32]) -> bool
+    ensures { result ≡ list_any (can_share target.now front.now) literals.now }
+{
+    for literal in literals {
+        if may_share(target, literal, front) {
+            return true;
+        }
+    }
+    false
+}
+
+/// Whether the clause can meet the target, where the first classes are these: else the other classes
+/// needn't be gone through.
+fn may_meet(target: &[Atom], clause: &Clause, front: &[u32]) -> bool
+    ensures { result ≡ (list_any (can_share target.now front.now) clause.now.premise || list_any (can_share target.now front.now) clause.now.conclusion) }
+{
+    may_share_any(target, clause.premise.as_slice(), front)
+        || may_share_any(target, clause.conclusion.as_slice(), front)
+}
+
 /// Appends the instances of a clause that meet the target, whose first classes are these.
-#[tactic(auto, using(crate::proofs::Finding::found_end, crate::proofs::Finding::found_each, crate::proofs::Finding::found_more))]
+#[tactic(auto, using(crate::proofs::Pruning::none_found, crate::proofs::Finding::found_end, crate::proofs::Finding::found_each, crate::proofs::Finding::found_more))]
 fn add_instances<'a>(
     search: &Search<'_>,
     clause: &'a Clause,
@@ -150,6 +222,9 @@ fn add_instances<'a>(
         }
         return Ok(());
     }
+    if !may_meet(search.target, clause, front.as_slice()) {
+        return Ok(());
+    }
     let (head, rest) = vars.split_at(1);
     let count = class_count(search.sorts, search.classes, head[0].sort);
     for class in 0..count {
@@ -160,44 +235,8 @@ fn add_instances<'a>(
     Ok(())
 }
 
-/// Whether a literal's predicate is that of one of these atoms.
-fn has_pred(atoms: &[Atom], literal: &Literal) -> bool
-    ensures { result ≡ names_pred atoms.now literal.now }
-{
-    let Literal::Atom { pred, .. } = literal else {
-        return false;
-    };
-    for atom in atoms {
-        if *pred == atom.pred {
-            return true;
-        }
-    }
-    false
-}
-
-/// Whether the predicate of some of these literals is that of one of the atoms.
-fn has_any_pred(atoms: &[Atom], literals: &[Literal]) -> bool
-    ensures { result ≡ list_any (names_pred atoms.now) literals.now }
-{
-    for literal in literals {
-        if has_pred(atoms, literal) {
-            return true;
-        }
-    }
-    false
-}
-
-/// Whether the clause and these atoms have a predicate in common: else none of its instances meets
-/// them.
-fn may_meet(atoms: &[Atom], clause: &Clause) -> bool
-    ensures { result ≡ (list_any (names_pred atoms.now) clause.now.premise || list_any (names_pred atoms.now) clause.now.conclusion) }
-{
-    has_any_pred(atoms, clause.premise.as_slice())
-        || has_any_pred(atoms, clause.conclusion.as_slice())
-}
-
 /// Appends the instances of a clause that meet the target.
-#[tactic(auto, using(crate::proofs::Finding::found_clause, crate::proofs::Finding::none_found))]
+#[tactic(auto, using(crate::proofs::Finding::found_clause))]
 fn add_clause_instances<'a>(
     search: &Search<'_>,
     clause: &'a Clause,
@@ -206,9 +245,7 @@ fn add_clause_instances<'a>(
     requires { length clause.now.vars ≤ 4 }
     ensures { OnOk result (map instance_of found.new ≡ map instance_of found.old ++ clause_instances search.now clause.now) }
 {
-    if may_meet(search.target, clause) {
-        add_instances(search, clause, Args::new(), clause.vars.as_slice(), found)?;
-    }
+    add_instances(search, clause, Args::new(), clause.vars.as_slice(), found)?;
     Ok(())
 }
 
@@ -256,15 +293,57 @@ pub(crate) fn find_hypotheses<'a>(
     Ok(())
 }
 
-/// Appends an atom, unless it is there.
-fn add_new(atom: Atom, slots: &mut Slots, once: &mut List<Atom>) -> Result<(), NoMemory>
+/// Appends an atom with this number, unless it is there.
+fn add_new(
+    atom: Atom,
+    code: usize,
+    slots: &mut Slots,
+    once: &mut List<Atom>,
+) -> Result<(), NoMemory>
+    requires { code < 110592 }
     ensures { OnOk result (once.new ≡ with_one once.old atom) }
 {
-    if !is_listed(slots, &atom, once.as_slice()) {
-        slots.note(&atom, once.len())?;
+    if !atom_among(&atom, once.as_slice()) {
+        slots.note(code, once.len())?;
         once.push(atom)?;
     }
     Ok(())
+}
+
+/// Appends the predicate's atom at the classes of these variables, unless it is there. The slots name
+/// the place at which to look first.
+#[tactic(auto, using(crate::proofs::Once::there_already))]
+fn add_at(
+    pred: u32,
+    classes: &[u32],
+    vars: &Args,
+    slots: &mut Slots,
+    once: &mut List<Atom>,
+) -> Result<(), NoMemory>
+    ensures { OnOk result (once.new ≡ with_one once.old (queries.atom_of pred (truths.values classes.now vars.now))) }
+{
+    let places = vars.as_slice();
+    let code = code_at(pred, classes, places);
+    if stands_at(once.as_slice(), slots.place_at(code), pred, classes, places) {
+        return Ok(());
+    }
+    let args = values(classes, vars);
+    add_new(Atom { pred, args }, code, slots, once)
+}
+
+/// Appends the atom of a literal at the classes, if it is one that isn't there.
+fn add_literal(
+    literal: &Literal,
+    classes: &[u32],
+    slots: &mut Slots,
+    once: &mut List<Atom>,
+) -> Result<(), NoMemory>
+    ensures { OnOk result (once.new ≡ with_all once.old (literal_atoms classes.now literal.now)) }
+{
+    match literal {
+        Literal::Atom { pred, vars } => add_at(*pred, classes, vars, slots, once),
+        Literal::Equal { .. } => Ok(()),
+    }
 }
 
 /// Appends those atoms of these literals at the classes that aren't there.
@@ -278,10 +357,7 @@ fn add_new_atoms(
     ensures { OnOk result (once.new ≡ with_all once.old (atoms_at classes.now literals.now)) }
 {
     for literal in literals {
-        if let Literal::Atom { pred, vars } = literal {
-            let args = values(classes, vars);
-            add_new(Atom { pred: *pred, args }, slots, once)?;
-        }
+        add_literal(literal, classes, slots, once)?;
     }
     Ok(())
 }

@@ -17,6 +17,7 @@ mod slots;
 mod state_lit;
 mod states;
 mod table;
+mod three_states;
 mod touched;
 mod walk;
 

@@ -11,7 +11,8 @@ ghost use Rattle.ground_clauses.specs.Derivations.{SpeaksOf};
 ghost use Rattle.ground_clauses.specs.Listing.{CaseFits};
 ghost use Rattle.ground_clauses.specs.Instances.{instance_of};
 ghost use Rattle.ground_clauses.specs.Rows as rows;
-ghost use Rattle.ground_clauses.specs.Rows.{AreApart, CanLook, IsNumbered, IsRow};
+ghost use Rattle.ground_clauses.specs.Rows.{AreApart, CanLook, IsNumbered, IsRow, row_atom};
+ghost use Rattle.ground_clauses.specs.ThreeStates.{read_clauses, same_number};
 ghost use Rattle.spec_model.specs.declared.state.Touch.TheVariants.{Loses};
 ghost use Rattle.ground_clauses.specs.Query as queries;
 
@@ -22,10 +23,11 @@ use crate::literals::{
     ClauseRoom, KnownForm, KnownLit, denied, literal_form, make_clause, same_moment, same_variable,
 };
 use crate::places::clause_at;
-use crate::rows::{Looking, Row, Seen, find_row, list_rows, seen_in};
+use crate::rows::{Looking, Row, Seen, list_rows, seen_in};
 use crate::slots::Slots;
 use crate::state_lit::{StateLit, Variable};
 use crate::table::{Touches, entry, touches_by};
+use crate::three_states::{OneState, ThreeStates, has_number};
 use crate::touched::{first_acting, second_acting, target_classes};
 use ind_base::{List, NoMemory};
 use spec_model::{Atom, Clause, Entry, Literal, Moment, Spec, Touch};
@@ -252,6 +254,59 @@ impl Draft {
         self.cnf.clauses.push(clause)?;
         Ok(())
     }
+
+    /// Appends a clause of these literals, each once.
+    #[tactic(auto, using(crate::proofs::ThreeStates::dedup_step))]
+    fn push_once(&mut self, alloc: Global, lits: &[Lit]) -> Result<(), NoMemory>
+        ensures { OnOk result (self.new.cnf.clauses ≡ self.old.cnf.clauses ++ queries.dedup same_number lits.now ∷ []) }
+    {
+        let mut clause = self.fresh(alloc);
+        for lit in lits {
+            if !has_number(*lit, clause.as_slice()) {
+                clause.push(*lit)?;
+            }
+        }
+        self.cnf.clauses.push(clause)?;
+        Ok(())
+    }
+}
+
+/// Room for the literals of one hypothesis: in three states at once, and in one where some row isn't
+/// found.
+#[derive(Drop)]
+struct Room {
+    three: ThreeStates,
+    clause: ClauseRoom,
+}
+
+impl Room {
+    /// Room without literals.
+    fn new(alloc: Global) -> Room {
+        Room {
+            three: ThreeStates::new(alloc),
+            clause: ClauseRoom::new(alloc),
+        }
+    }
+}
+
+/// Appends the clause that was read in a state, if there is one.
+fn push_read(alloc: Global, state: &OneState, draft: &mut Draft) -> Result<(), NoMemory>
+    ensures { OnOk result (draft.new.cnf.clauses ≡ draft.old.cnf.clauses ++ read_clauses state.now) }
+{
+    if state.is_true() {
+        return Ok(());
+    }
+    draft.push_once(alloc, state.lits.as_slice())
+}
+
+/// Appends the clauses that were read in the three states.
+fn push_three(alloc: Global, three: &ThreeStates, draft: &mut Draft) -> Result<(), NoMemory>
+    ensures { OnOk result (draft.new.cnf.clauses ≡ ((draft.old.cnf.clauses ++ read_clauses three.now.start) ++ read_clauses three.now.first) ++ read_clauses three.now.second) }
+{
+    push_read(alloc, &three.start, draft)?;
+    push_read(alloc, &three.first, draft)?;
+    push_read(alloc, &three.second, draft)?;
+    Ok(())
 }
 
 /// Appends the form of a hypothesis in a state.
@@ -274,9 +329,9 @@ fn add_form(
     Ok(())
 }
 
-/// Appends the forms of a hypothesis in the first three states.
+/// Appends the forms of a hypothesis in the first three states, one after the other.
 #[tactic(auto, using(crate::proofs::Asking::three_forms))]
-fn add_hypothesis(
+fn add_forms(
     alloc: Global,
     looking: &Looking<'_>,
     instance: &Instance<'_>,
@@ -292,13 +347,32 @@ fn add_hypothesis(
     Ok(())
 }
 
+/// Appends the forms of a hypothesis in the first three states.
+#[tactic(auto, using(crate::proofs::ThreeStates::three_read, crate::proofs::Asking::three_forms))]
+fn add_hypothesis(
+    alloc: Global,
+    looking: &Looking<'_>,
+    instance: &Instance<'_>,
+    room: &mut Room,
+    draft: &mut Draft,
+) -> Result<(), NoMemory>
+    requires { CanLook looking.now }
+    ensures { OnOk result (draft.new.cnf.clauses ≡ draft.old.cnf.clauses ++ instance_clauses looking.now.asked instance.now) }
+{
+    if room.three.read(looking, instance)? {
+        push_three(alloc, &room.three, draft)
+    } else {
+        add_forms(alloc, looking, instance, &mut room.clause, draft)
+    }
+}
+
 /// Appends the forms of all hypotheses.
 #[tactic(auto, using(crate::proofs::Asking::instances_step))]
 fn add_hypotheses(
     alloc: Global,
     looking: &Looking<'_>,
     instances: &[Instance<'_>],
-    room: &mut ClauseRoom,
+    room: &mut Room,
     draft: &mut Draft,
 ) -> Result<(), NoMemory>
     requires { CanLook looking.now }
@@ -383,20 +457,20 @@ fn add_row(alloc: Global, asked: &Asked<'_>, row: &Row, draft: &mut Draft) -> Re
     }
 }
 
-/// Appends the clauses of the table for these atoms.
-#[tactic(auto, using(crate::proofs::Building::flat_step))]
+/// Appends the clauses of the table for the atoms of these rows.
+#[tactic(auto, using(crate::proofs::Apart::row_at, crate::proofs::Apart::rows_step))]
 fn add_rows(
     alloc: Global,
-    looking: &Looking<'_>,
-    atoms: &[Atom],
+    asked: &Asked<'_>,
+    rows: &[Row],
     draft: &mut Draft,
 ) -> Result<(), NoMemory>
-    requires { CanLook looking.now }
-    ensures { OnOk result (draft.new.cnf.clauses ≡ draft.old.cnf.clauses ++ flat_map (row_clauses looking.now.asked) atoms.now) }
+    requires can { CanAsk asked.now }
+    requires rows { AllByRecursion (IsRow asked.now) rows.now }
+    ensures { OnOk result (draft.new.cnf.clauses ≡ draft.old.cnf.clauses ++ flat_map (row_clauses asked.now) (map row_atom rows.now)) }
 {
-    for atom in atoms {
-        let row = find_row(looking, atom);
-        add_row(alloc, &looking.asked, &row, draft)?;
+    for row in rows {
+        add_row(alloc, asked, row, draft)?;
     }
     Ok(())
 }
@@ -479,11 +553,12 @@ fn make_query(
     looking: &Looking<'_>,
     place: u32,
     subject: &Subject<'_>,
-    room: &mut ClauseRoom,
+    room: &mut Room,
     draft: &mut Draft,
 ) -> Result<(), NoMemory>
     requires can { CanLook looking.now }
     requires clause { place < length looking.now.asked.spec.now.clauses }
+    requires rows { map row_atom looking.now.rows.now ≡ subject.now.atoms }
     requires found { map instance_of subject.now.found ≡ cases.case_hypotheses looking.now.asked.spec.now looking.now.asked.case.now place }
     requires once { subject.now.atoms ≡ queries.atoms_of (cases.case_hypotheses looking.now.asked.spec.now looking.now.asked.case.now place) }
     requires own { looking.now.asked.variables.now ≡ flat_map (queries.atom_variables looking.now.asked.spec.now (sets_in looking.now.asked)) subject.now.atoms }
@@ -493,7 +568,7 @@ fn make_query(
     let classes = target_classes(looking.asked.spec, looking.asked.case);
     draft.clear()?;
     add_hypotheses(alloc, looking, subject.found.as_slice(), room, draft)?;
-    add_rows(alloc, looking, subject.atoms.as_slice(), draft)?;
+    add_rows(alloc, &looking.asked, looking.rows, draft)?;
     add_target(alloc, looking, target, classes, draft)?;
     Ok(())
 }
@@ -503,7 +578,7 @@ fn make_query(
 pub struct Queries<'a> {
     subject: Subject<'a>,
     rows: List<Row>,
-    room: ClauseRoom,
+    room: Room,
     draft: Draft,
 }
 
@@ -513,7 +588,7 @@ impl<'a> Queries<'a> {
         Queries {
             subject: Subject::new(alloc),
             rows: List::new(alloc),
-            room: ClauseRoom::new(alloc),
+            room: Room::new(alloc),
             draft: Draft::new(alloc),
         }
     }

@@ -74,7 +74,7 @@ pub(crate) fn plain_class(params: &[Var], classes: &[u32], place: usize) -> Opti
 }
 
 /// Whether this class lies in the argument that a term stands for.
-fn term_has(op: &Op, classes: &[u32], bits: u32, term: &Term, class: u32) -> bool
+pub(crate) fn term_has(op: &Op, classes: &[u32], bits: u32, term: &Term, class: u32) -> bool
     ensures { result ≡ truths.term_has (reaches_have (reaches op.now.params classes.now bits)) term.now class }
 {
     match term {

@@ -3,18 +3,19 @@
 ghost use Rattle.std.specs.Prelude.{◌≡◌, ◌≤◌, ◌<◌, ◌^◌, [], length, map, OnOk};
 ghost use Rattle.std.specs.List.{AllByRecursion};
 ghost use Rattle.spec_model.specs.declared.state.Entry.{Entry as OneEntry};
+ghost use Rattle.spec_model.specs.declared.state.Moment.TheVariants as moments;
 ghost use Rattle.ground_clauses.specs.Asking.{CanAsk, sets_in};
 ghost use Rattle.ground_clauses.specs.Query as queries;
 ghost use Rattle.spec_model.specs.Stable as stable;
-ghost use Rattle.ground_clauses.specs.Rows.{AreApart, CanLook, HasNumber, IsRow, entry_seen, seen_at, touches_at};
+ghost use Rattle.ground_clauses.specs.Rows.{AreApart, HasNumber, IsRow, entry_seen, row_atom, seen_at, touches_at};
 
-use crate::literals::{same_atom, same_variable};
+use crate::literals::{same_moment, same_variable};
 use crate::queries::{Asked, number_of};
 use crate::slots::Slots;
 use crate::state_lit::Variable;
 use crate::table::{Touches, entry, touches_in, winner};
 use ind_base::{List, NoMemory};
-use spec_model::{Atom, Entry, Moment};
+use spec_model::{Atom, Entry, Moment, Touch};
 
 /// An atom's truth in a state: the winning one for certain, or that of the variable of this state,
 /// which has this number.
@@ -35,6 +36,14 @@ pub(crate) struct Row {
     pub(crate) first: Seen,
     pub(crate) second: Seen,
     pub(crate) both: Seen,
+}
+
+/// What an atom is in the first three states.
+#[derive(Clone, Copy)]
+struct Earlier {
+    start: Seen,
+    first: Seen,
+    second: Seen,
 }
 
 /// The number of a variable, which is looked for from this place on first.
@@ -72,8 +81,58 @@ fn see(variables: &[Variable], atom: &Atom, entry: Entry, near: usize) -> Seen
     }
 }
 
+/// The place behind the variable of this state, or the place that is given.
+fn place_behind(seen: Seen, place: usize) -> usize {
+    match seen {
+        Seen::Always => place,
+        Seen::Same { number, .. } => place.max(number as usize + 1),
+    }
+}
+
+/// What an atom with this entry of the table is, where this is seen of it already.
+#[tactic(auto, using(crate::proofs::Apart::seen_again))]
+fn see_next(variables: &[Variable], atom: &Atom, entry: Entry, known: Seen, near: usize) -> Seen
+    requires apart { AreApart variables.now }
+    requires few { length variables.now < 2 ^ 32 }
+    requires known { HasNumber variables.now atom.now known }
+    ensures entry { entry_seen result ≡ entry }
+    ensures number { HasNumber variables.now atom.now result }
+{
+    match (entry, known) {
+        (Entry::Same(moment), Seen::Same { moment: same, .. }) if same_moment(moment, same) =>
+            known,
+        _ => see(variables, atom, entry, near),
+    }
+}
+
+/// What an atom with this entry of the table is with both operations, where this is seen of it
+/// already: mostly what it is with the one that does something to it.
+fn see_both(
+    variables: &[Variable],
+    atom: &Atom,
+    touches: Touches,
+    earlier: &Earlier,
+    near: usize,
+) -> Seen
+    requires apart { AreApart variables.now }
+    requires few { length variables.now < 2 ^ 32 }
+    requires start { HasNumber variables.now atom.now earlier.now.start }
+    requires first { HasNumber variables.now atom.now earlier.now.first }
+    requires second { HasNumber variables.now atom.now earlier.now.second }
+    ensures entry { entry_seen result ≡ stable.entry touches.first touches.second moments.Both }
+    ensures number { HasNumber variables.now atom.now result }
+{
+    let Touches { first, second } = touches;
+    let both = entry(first, second, Moment::Both);
+    match (first, second) {
+        (Touch::Leaves, Touch::Leaves) => see_next(variables, atom, both, earlier.start, near),
+        (_, Touch::Leaves) => see_next(variables, atom, both, earlier.first, near),
+        _ => see_next(variables, atom, both, earlier.second, near),
+    }
+}
+
 /// The row of an atom, to which the operations do this, and whose variables are looked for from this
-/// place on first.
+/// place on first. In most states it is what it is at the start.
 fn row_of(asked: &Asked<'_>, atom: &Atom, touches: Touches, near: usize) -> Row
     requires can { CanAsk asked.now }
     requires apart { AreApart asked.now.variables.now }
@@ -82,16 +141,40 @@ fn row_of(asked: &Asked<'_>, atom: &Atom, touches: Touches, near: usize) -> Row
     ensures row { IsRow asked.now result }
     ensures atom { result.atom ≡ atom.now }
 {
-    let Touches { first, second } = touches;
     let variables = asked.variables;
+    let Touches { first, second } = touches;
+    let start = see(variables, atom, entry(first, second, Moment::Start), near);
+    let behind = place_behind(start, near);
+    let one = see_next(
+        variables,
+        atom,
+        entry(first, second, Moment::First),
+        start,
+        behind,
+    );
+    let behind = place_behind(one, behind);
+    let other = see_next(
+        variables,
+        atom,
+        entry(first, second, Moment::Second),
+        start,
+        behind,
+    );
+    let behind = place_behind(other, behind);
+    let earlier = Earlier {
+        start,
+        first: one,
+        second: other,
+    };
+    let both = see_both(variables, atom, touches, &earlier, behind);
     Row {
         atom: *atom,
         touches,
         wins: winner(asked.spec, atom.pred),
-        start: see(variables, atom, entry(first, second, Moment::Start), near),
-        first: see(variables, atom, entry(first, second, Moment::First), near),
-        second: see(variables, atom, entry(first, second, Moment::Second), near),
-        both: see(variables, atom, entry(first, second, Moment::Both), near),
+        start,
+        first: one,
+        second: other,
+        both,
     }
 }
 
@@ -117,14 +200,6 @@ pub(crate) fn seen_in(row: &Row, moment: Moment) -> Seen
     }
 }
 
-/// The place behind the variable of this state, or the place that is given.
-fn place_behind(seen: Seen, place: usize) -> usize {
-    match seen {
-        Seen::Always => place,
-        Seen::Same { number, .. } => place.max(number as usize + 1),
-    }
-}
-
 /// The place behind the variables of a row, or the place that is given.
 fn next_place(row: &Row, place: usize) -> usize {
     let place = place_behind(row.start, place);
@@ -134,7 +209,7 @@ fn next_place(row: &Row, place: usize) -> usize {
 }
 
 /// Lists the rows of these atoms, to which the operations do this, in place of those listed before.
-#[tactic(auto, using(crate::proofs::Apart::place_touched, crate::proofs::Apart::first_at, crate::proofs::Apart::second_at))]
+#[tactic(auto, using(crate::proofs::Apart::rows_more, crate::proofs::Apart::place_touched, crate::proofs::Apart::first_at, crate::proofs::Apart::second_at))]
 pub(crate) fn list_rows(
     asked: &Asked<'_>,
     atoms: &[Atom],
@@ -144,7 +219,8 @@ pub(crate) fn list_rows(
     requires can { CanAsk asked.now }
     requires apart { AreApart asked.now.variables.now }
     requires touched { touches.now ≡ map (touches_at asked.now.spec.now (sets_in asked.now)) atoms.now }
-    ensures { OnOk result (AllByRecursion (IsRow asked.now) rows.new) }
+    ensures rows { OnOk result (AllByRecursion (IsRow asked.now) rows.new) }
+    ensures atoms { OnOk result (map row_atom rows.new ≡ atoms.now) }
 {
     rows.truncate(0);
     let mut near = 0;
@@ -162,17 +238,4 @@ pub(crate) struct Looking<'a> {
     pub(crate) asked: Asked<'a>,
     pub(crate) rows: &'a [Row],
     pub(crate) slots: &'a Slots,
-}
-
-/// The row of an atom.
-#[tactic(auto, using(crate::proofs::Apart::row_there, crate::proofs::Apart::atom_same))]
-pub(crate) fn find_row(looking: &Looking<'_>, atom: &Atom) -> Row
-    requires { CanLook looking.now }
-    ensures row { IsRow looking.now.asked result }
-    ensures atom { result.atom ≡ atom.now }
-{
-    match looking.rows.get(looking.slots.hint(atom)) {
-        Some(row) if same_atom(atom, &row.atom) => *row,
-        _ => new_row(&looking.asked, atom),
-    }
 }

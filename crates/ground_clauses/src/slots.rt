@@ -3,7 +3,6 @@
 ghost use Rattle.std.specs.Prelude.{◌<◌};
 
 use ind_base::NoMemory;
-use spec_model::Atom;
 use std::alloc::Global;
 
 /// For each atom, by a number that is made of it, a place at which it may stand in a list. What is
@@ -31,19 +30,6 @@ fn code(pred: u32, first: usize, second: usize, third: usize) -> usize
     ((pred * 12 + first) * 12 + second) * 12 + third
 }
 
-/// The number of an atom, by its first three classes.
-fn code_of(atom: &Atom) -> usize
-    ensures { result < 110592 }
-{
-    let args = atom.args.as_slice();
-    code(
-        atom.pred,
-        class_of(args, 0),
-        class_of(args, 1),
-        class_of(args, 2),
-    )
-}
-
 /// The class of the variable at this place of these.
 fn class_in(classes: &[u32], vars: &[u32], at: usize) -> usize
     ensures { result < 12 }
@@ -54,8 +40,10 @@ fn class_in(classes: &[u32], vars: &[u32], at: usize) -> usize
     }
 }
 
-/// The number of the predicate's atom at the classes of these variables.
-fn code_at(pred: u32, classes: &[u32], vars: &[u32]) -> usize {
+/// The number of the predicate's atom at the classes of these variables, by the first three.
+pub(crate) fn code_at(pred: u32, classes: &[u32], vars: &[u32]) -> usize
+    ensures { result < 110592 }
+{
     code(
         pred,
         class_in(classes, vars, 0),
@@ -72,20 +60,20 @@ impl Slots {
         }
     }
 
-    /// The place that was noted last for the atom, if any was.
-    pub(crate) fn hint(&self, atom: &Atom) -> usize {
-        self.places.get(code_of(atom)).copied().unwrap_or(0)
+    /// The place that was noted last for an atom with this number, if any was.
+    pub(crate) fn place_at(&self, code: usize) -> usize {
+        self.places.get(code).copied().unwrap_or(0)
     }
 
     /// The place that was noted last for the predicate's atom at the classes of these variables.
     pub(crate) fn hint_at(&self, pred: u32, classes: &[u32], vars: &[u32]) -> usize {
-        let code = code_at(pred, classes, vars);
-        self.places.get(code).copied().unwrap_or(0)
+        self.place_at(code_at(pred, classes, vars))
     }
 
-    /// Notes the place of an atom.
-    pub(crate) fn note(&mut self, atom: &Atom, place: usize) -> Result<(), NoMemory> {
-        let code = code_of(atom);
+    /// Notes the place of an atom with this number.
+    pub(crate) fn note(&mut self, code: usize, place: usize) -> Result<(), NoMemory>
+        requires { code < 110592 }
+    {
         for _ in self.places.len()..code + 1 {
             self.places.push(0)?;
         }

@@ -1,18 +1,18 @@
 //! Which cases are touched.
 
-ghost use Rattle.std.specs.Prelude.{◌≡◌, ◌<◌, ◌&&◌, true, take, drop, length, get_or};
+ghost use Rattle.std.specs.Prelude.{◌≡◌, ◌<◌, ◌&&◌, true, take, drop, length, get_or, is_some};
 ghost use Rattle.std.specs.List.{list_any};
 ghost use Rattle.spec_model.specs.Truths as truths;
 ghost use Rattle.ground_clauses.specs.Cases as cases;
 ghost use Rattle.ground_clauses.specs.Query as queries;
-ghost use Rattle.ground_clauses.specs.Cases.{CaseKnown};
+ghost use Rattle.ground_clauses.specs.Cases.{CaseKnown, reaches, reaches_have};
 ghost use Rattle.ground_clauses.specs.Fronts.{acts, front_at, is_front};
 ghost use Rattle.ground_clauses.specs.Literals.{is_set};
 
 use crate::case::{Case, Target};
 use crate::places::{clause_at, op_at};
-use crate::reach::{op_sets, plain_class};
-use spec_model::{Args, Clause, Literal, Op, Spec, Var};
+use crate::reach::{op_sets, plain_class, term_has};
+use spec_model::{Args, Clause, Line, Literal, Op, Spec, Term, Var};
 
 /// How many of these parameters are plain.
 pub(crate) fn plain_count(params: &[Var]) -> usize
@@ -156,15 +156,67 @@ pub(crate) fn second_acting<'a>(spec: &'a Spec, case: &'a Case) -> Acting<'a>
     }
 }
 
+/// The class of the variable at this place.
+pub(crate) fn class_at(classes: &[u32], place: u32) -> u32
+    ensures { result ≡ get_or classes.now place 0 }
+{
+    classes.get(place as usize).copied().unwrap_or(0)
+}
+
+/// Whether the terms of an operation's line touch the atom at the classes of these variables.
+fn terms_touch(acting: &Acting<'_>, terms: &[Term], classes: &[u32], vars: &[u32]) -> bool
+    ensures { result ≡ truths.terms_touch (reaches_have (reaches acting.now.op.now.params acting.now.classes.now acting.now.bits)) terms.now (truths.values classes.now vars.now) }
+{
+    let mut left = vars;
+    for term in terms {
+        let [var, rest @ ..] = left else {
+            return false;
+        };
+        let class = class_at(classes, *var);
+        if !term_has(acting.op, acting.classes, acting.bits, term, class) {
+            return false;
+        }
+        left = rest;
+    }
+    left.is_empty()
+}
+
+/// Whether an operation's line sets the predicate's atom at the classes of these variables.
+fn line_touches(acting: &Acting<'_>, line: &Line, pred: u32, classes: &[u32], vars: &[u32]) -> bool
+    ensures { result ≡ is_some (truths.line_sets (reaches_have (reaches acting.now.op.now.params acting.now.classes.now acting.now.bits)) pred (truths.values classes.now vars.now) line.now) }
+{
+    match line {
+        Line::Set { pred: of, terms } => {
+            *of == pred && terms_touch(acting, terms.as_slice(), classes, vars)
+        }
+        Line::Clear { pred: of, terms } => {
+            *of == pred && terms_touch(acting, terms.as_slice(), classes, vars)
+        }
+        _ => false,
+    }
+}
+
+/// Whether an operation sets the predicate's atom at the classes of these variables. One line is
+/// enough, and the atom isn't made.
+#[tactic(auto, using(crate::proofs::Parts::lines_step))]
+fn sets_at(acting: &Acting<'_>, pred: u32, classes: &[u32], vars: &[u32]) -> bool
+    ensures { result ≡ is_some (acts acting.now pred (truths.values classes.now vars.now)) }
+{
+    for line in acting.op.lines.as_slice() {
+        if line_touches(acting, line, pred, classes, vars) {
+            return true;
+        }
+    }
+    false
+}
+
 /// Whether some of these literals is an atom that the operation sets.
 fn sets_any(acting: &Acting<'_>, literals: &[Literal], classes: &[u32]) -> bool
     ensures { result ≡ list_any (is_set (acts acting.now) classes.now) literals.now }
 {
     for literal in literals {
         if let Literal::Atom { pred, vars } = literal {
-            let args = values(classes, vars);
-            let args = args.as_slice();
-            if op_sets(acting.op, acting.classes, acting.bits, *pred, args).is_some() {
+            if sets_at(acting, *pred, classes, vars.as_slice()) {
                 return true;
             }
         }
@@ -179,13 +231,6 @@ fn touches(acting: &Acting<'_>, clause: &Clause, classes: &[u32]) -> bool
 {
     sets_any(acting, clause.premise.as_slice(), classes)
         || sets_any(acting, clause.conclusion.as_slice(), classes)
-}
-
-/// The class of the variable at this place.
-pub(crate) fn class_at(classes: &[u32], place: u32) -> u32
-    ensures { result ≡ get_or classes.now place 0 }
-{
-    classes.get(place as usize).copied().unwrap_or(0)
 }
 
 /// Whether some of these literals is an equality that has this truth at the classes.
