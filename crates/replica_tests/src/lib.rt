@@ -4,6 +4,10 @@
 #[cfg(test)]
 mod decision_tests;
 #[cfg(test)]
+mod link_tests;
+#[cfg(test)]
+mod links;
+#[cfg(test)]
 mod replicas;
 #[cfg(test)]
 mod shop;
