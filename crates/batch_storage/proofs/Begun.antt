@@ -1,11 +1,12 @@
 -- What a start makes of what was kept.
-use Rattle.std.proofs.Common.{◌≡◌, ◌⊎◌, inl, inr, ℕ, ◌+◌, ◌*◌, ◌≤◌, List, [], ◌∷◌, length, Option, Result, Ok, Err, sym, ap, subst, arith, length-append}
-use Rattle.std.specs.Prelude.{IfOk, OnErr}
+use Rattle.std.proofs.Common.{◌≡◌, ◌⊎◌, inl, inr, ℕ, ◌+◌, ◌*◌, ◌≤◌, List, [], ◌∷◌, length, Option, Some, Result, Ok, Err, sym, ap, subst, arith, length-append}
+use Rattle.std.specs.Prelude.{IfOk, OnErr, IsSomeAnd}
 use Rattle.ind_disk.specs.Disk.{LeavesOnly}
 use Rattle.run_model.specs.declared.batch.Batch.{Batch}
 use Rattle.rights_journal.proofs.Moments.{leaves_now}
 use Rattle.batch_storage.specs.Found.{IsWith, IsFound}
-use Rattle.batch_storage.specs.Kept.{KeepsFound}
+use Rattle.run_model.specs.Worlds.{Running, Up, Down}
+use Rattle.batch_storage.specs.Kept.{KeepsFound, StillKeeps}
 use Rattle.batch_storage.specs.Held.{IsStored, IsLeft, IsHeld, held_where}
 use Rattle.batch_storage.specs.declared.storage.Found.{Found}
 use Rattle.batch_storage.specs.declared.storage.Found.TheVariants as found
@@ -58,3 +59,23 @@ if_broken (Err e) up down d kept pending is here = tt
 pub on_err : {T E P : Type 0} (r : Result T E) → P → OnErr r P
 on_err (Ok x) p = tt
 on_err (Err e) p = p
+
+-- a refusal that has P has what follows from that
+pub err_more : {T E P Q : Type 0} (r : Result T E) → (P → Q) → OnErr r P → OnErr r Q
+err_more (Ok x) more p = tt
+err_more (Err e) more p = more p
+
+-- of a disk alone, nothing is kept of a replica that is up
+pub still_running : {J D : Type 0} (up : List Batch → J → Type 0) (down : List Batch → D → Option Batch → Type 0) (batches : List Batch) (d : D) (h : Held J D) (running : Running)
+    → ((next : Option Batch) → down batches d next → IsHeld (λ j. ⊥) (down batches) (Down next) h)
+    → IsHeld (up batches) (down batches) running (held.Disk d) → IsHeld (up batches) (down batches) running h
+still_running up down batches d h Up kept here = absurd here
+still_running up down batches d (held.Journal j) (Down next) kept here = kept next here
+still_running up down batches d (held.Disk e) (Down next) kept here = kept next here
+
+-- a disk that is kept through a refusal is kept as the whole storage
+pub still_down : {J D : Type 0} (r : Result Found NoMemory) (up : List Batch → J → Type 0) (down : List Batch → D → Option Batch → Type 0) (was : Option (Held J D)) (d : D) (h : Held J D)
+    → was ≡ Some (held.Disk d) → OnErr r ((batches : List Batch) (next : Option Batch) → down batches d next → IsHeld (λ j. ⊥) (down batches) (Down next) h)
+    → OnErr r (StillKeeps (λ batches running. IsSomeAnd was (IsHeld (up batches) (down batches) running)) (λ batches running. IsSomeAnd (Some h) (IsHeld (up batches) (down batches) running)))
+still_down {J} {D} (Ok f) up down was d h is kept = tt
+still_down {J} {D} (Err e) up down was d h is kept = λ batches running here. still_running up down batches d h running (kept batches) (subst (λ (o : Option (Held J D)). IsSomeAnd o (IsHeld (up batches) (down batches) running)) is here)

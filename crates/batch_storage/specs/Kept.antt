@@ -10,6 +10,10 @@ abbrev pub KeepsBatch : (List Batch → Running → Type 0) → List Batch → B
 KeepsBatch keeps batches batch true = keeps (batches ++ batch ∷ []) Up
 KeepsBatch keeps batches batch false = keeps batches (Down (Some batch))
 
+-- whatever was kept is kept still
+abbrev pub StillKeeps : (List Batch → Running → Type 0) → (List Batch → Running → Type 0) → Type 0
+StillKeeps old new = (batches : List Batch) (running : Running) → old batches running → new batches running
+
 -- what a start finds: all as it was, since the disk failed; the batches without what was pending; or with it
 abbrev pub KeepsFound : (List Batch → Running → Type 0) → List Batch → Option Batch → Found → Type 0
 KeepsFound keeps batches pending found.Broken = keeps batches (Down pending)

@@ -1,6 +1,7 @@
 //! A start on a disk, where it is known what was kept.
 
-ghost use Rattle.std.specs.Prelude.{◌≡◌, IsTrue, IfOk, OnOk, OnErr, Ok};
+ghost use Rattle.std.specs.Prelude.{◌≡◌, List, IsTrue, IfOk, OnOk, OnErr, Ok, Option};
+ghost use Rattle.run_model.specs.declared.batch.Batch.{Batch as BatchOf};
 ghost use Rattle.ind_disk.specs.Disk.{Only};
 ghost use Rattle.batch_storage.specs.Shown.{Costs, IsAwake, shown_of};
 ghost use Rattle.batch_storage.specs.Kept.{KeepsFound};
@@ -48,6 +49,9 @@ pub fn start_on<J: Keeps + Drop>(
         (λ j. ⊥)
         (λ d next. IsDown (J.D.standing d) (J.D.may_leave d) (IsLeft (J.stands_for replicas) kept.now next))
         (Down pending.now) result.0) }
+    ensures still { OnErr result.1 ((batches : List BatchOf) (next : Option BatchOf)
+        → (IsTrue (J.D.standing disk).tells → IsLeft (J.stands_for replicas) batches next (J.D.standing disk).bytes)
+        → IsHeld (λ j. ⊥) (λ d next. IsDown (J.D.standing d) (J.D.may_leave d) (IsLeft (J.stands_for replicas) batches next)) (Down next) result.0) }
     ensures costs { IsAwake (J.D.standing disk) → Costs (shown_of (J.D.standing disk)) (shown_of (J.D.standing (disk_in J.disk_of result.0))) (result.1 ≡ Ok found.Broken) }
 {
     J::one_thing();
@@ -77,6 +81,9 @@ pub fn restart_on<J: Keeps + Drop>(
         (λ j. ⊥)
         (λ d next. IsDown (J.D.standing d) (J.D.may_leave d) (IsLeft (J.stands_for replicas) kept.now next))
         (Down pending.now) result.0) }
+    ensures still { OnErr result.1 ((batches : List BatchOf) (next : Option BatchOf)
+        → IsDown (J.D.standing disk) (J.D.may_leave disk) (IsLeft (J.stands_for replicas) batches next)
+        → IsHeld (λ j. ⊥) (λ d next. IsDown (J.D.standing d) (J.D.may_leave d) (IsLeft (J.stands_for replicas) batches next)) (Down next) result.0) }
     ensures costs { Costs (shown_of (J.D.standing disk)) (shown_of (J.D.standing (disk_in J.disk_of result.0))) (result.1 ≡ Ok found.Broken) }
 {
     let mut disk = disk;

@@ -6,7 +6,7 @@ ghost use Rattle.run_model.specs.Worlds.{Running, Up, Down, first_running};
 ghost use Rattle.ind_disk.specs.Bay.{IsEmpty};
 ghost use Rattle.op_records.specs.Spelling.{IsBatch};
 ghost use Rattle.batch_storage.specs.Shown.{Costs, IsAwake, Shown, shown_of};
-ghost use Rattle.batch_storage.specs.Kept.{KeepsBatch, KeepsFound};
+ghost use Rattle.batch_storage.specs.Kept.{KeepsBatch, KeepsFound, StillKeeps};
 ghost use Rattle.batch_storage.specs.declared.storage.Found.TheVariants as found;
 
 use ind_base::NoMemory;
@@ -53,6 +53,7 @@ pub trait Storage: Sized {
         requires kept { (n : ℕ) × (batches : List BatchOf) × keeps self.old n batches Up × IsBatch n batch.now.items × (length batches < 100000) }
         ensures kept { IfOk result (λ ok. (n : ℕ) (batches : List BatchOf) → keeps self.old n batches Up → IsBatch n batch.now.items → length batches < 100000 → KeepsBatch (keeps self.new n) batches batch.now ok) }
         ensures err { OnErr result ((n : ℕ) (batches : List BatchOf) → keeps self.old n batches Up → keeps self.new n batches Up) }
+        ensures still { OnErr result ((n : ℕ) → StillKeeps (keeps self.old n) (keeps self.new n)) }
         ensures costs { Costs (shows self.old) (shows self.new) (result ≡ Ok false) };
 
     /// Stops: the replica goes down.
@@ -62,7 +63,7 @@ pub trait Storage: Sized {
         ensures same { shows self.new ≡ shows self.old };
 
     /// Restarts the disk and starts on it, where these batches were kept, and perhaps the one that is
-    /// pending.
+    /// pending. A refusal for want of memory leaves only batches that a crash could leave before.
     fn restart(
         &mut self,
         alloc: Global,
@@ -73,6 +74,7 @@ pub trait Storage: Sized {
         requires kept { keeps self.old replicas kept.now (Down pending.now) }
         ensures found { IfOk result (KeepsFound (keeps self.new replicas) kept.now pending.now) }
         ensures err { OnErr result (keeps self.new replicas kept.now (Down pending.now)) }
+        ensures still { OnErr result (StillKeeps (keeps self.old replicas) (keeps self.new replicas)) }
         ensures costs { Costs (shows self.old) (shows self.new) (result ≡ Ok found.Broken) };
 
     /// The disk.

@@ -6,6 +6,7 @@ ghost use Rattle.run_model.specs.declared.step.Ask.TheVariants as asks;
 ghost use Rattle.run_model.specs.Finals.{final_of, last_of};
 ghost use Rattle.run_model.specs.Worlds.{Up};
 ghost use Rattle.run_model.specs.Fitting.{SetupFits};
+ghost use Rattle.batch_storage.specs.Kept.{StillKeeps};
 ghost use Rattle.batch_storage.specs.Shown.{Costs};
 
 use crate::answer::Answer;
@@ -91,6 +92,7 @@ impl Course {
         ensures ended { HasEnded setup.now (asks.Do inst.now) heard.Nothing self.old self.new result }
         ensures kept { S.keeps storage.new setup.now.replicas self.new.kept (running_of self.new) }
         ensures costs { Costs (S.shows storage.old) (S.shows storage.new) (BreaksDisk result) }
+        ensures still { OnErr result (StillKeeps (S.keeps storage.old setup.now.replicas) (S.keeps storage.new setup.now.replicas)) }
     {
         match self.decide(alloc, setup, inst)? {
             Decision::Breaks(broken) => self.refuse(alloc, setup, inst, broken),
@@ -114,6 +116,7 @@ impl Course {
         ensures ended { HasEnded setup.now (take_of message.now) (heard.Message message.now) self.old self.new result }
         ensures kept { S.keeps storage.new setup.now.replicas self.new.kept (running_of self.new) }
         ensures costs { Costs (S.shows storage.old) (S.shows storage.new) (BreaksDisk result) }
+        ensures still { OnErr result (StillKeeps (S.keeps storage.old setup.now.replicas) (S.keeps storage.new setup.now.replicas)) }
     {
         let taken = self.draft(alloc, setup, message)?;
         if taken.batch.items.is_empty() {
@@ -141,6 +144,7 @@ impl Course {
         ensures ended { HasEnded setup.now ask.now heard.now self.old self.new result }
         ensures kept { S.keeps storage.new setup.now.replicas self.new.kept (running_of self.new) }
         ensures costs { Costs (S.shows storage.old) (S.shows storage.new) (BreaksDisk result) }
+        ensures still { OnErr result (StillKeeps (S.keeps storage.old setup.now.replicas) (S.keeps storage.new setup.now.replicas)) }
     {
         match heard {
             Heard::Nothing => self.rest_up(alloc, setup, *ask, heard, Outcome::Idle),
@@ -189,6 +193,7 @@ impl Course {
         ensures ended { HasEnded setup.now ask.now heard.now self.old self.new result }
         ensures kept { S.keeps storage.new setup.now.replicas self.new.kept (running_of self.new) }
         ensures costs { Costs (S.shows storage.old) (S.shows storage.new) (BreaksDisk result) }
+        ensures still { OnErr result (StillKeeps (S.keeps storage.old setup.now.replicas) (S.keeps storage.new setup.now.replicas)) }
     {
         match ask {
             Ask::Do(inst) => self.request(alloc, setup, storage, inst),
@@ -215,6 +220,7 @@ impl Course {
         ensures ended { HasEnded setup.now ask.now heard.Nothing self.old self.new result }
         ensures kept { S.keeps storage.new setup.now.replicas self.new.kept (running_of self.new) }
         ensures costs { Costs (S.shows storage.old) (S.shows storage.new) (BreaksDisk result) }
+        ensures still { OnErr result (StillKeeps (S.keeps storage.old setup.now.replicas) (S.keeps storage.new setup.now.replicas)) }
     {
         match ask {
             Ask::Recover => self.recover(alloc, setup, storage),
@@ -243,6 +249,7 @@ impl Course {
         ensures kept { S.keeps storage.new setup.now.replicas self.new.kept (running_of self.new) }
         ensures steps { IfOk result (λ answer. CourseSteps setup.now ask heard.now self.old answer self.new) }
         ensures costs { Costs (S.shows storage.old) (S.shows storage.new) (BreaksDisk result) }
+        ensures still { OnErr result (StillKeeps (S.keeps storage.old setup.now.replicas) (S.keeps storage.new setup.now.replicas)) }
         ensures err { OnErr result (IsAsBefore self.old self.new) }
     {
         if self.is_up() {

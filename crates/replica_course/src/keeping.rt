@@ -11,7 +11,7 @@ ghost use Rattle.replica_core.specs.Decisions.{Decides, IsDecided};
 ghost use Rattle.replica_core.specs.declared.decision.Decision.TheVariants as decision;
 ghost use Rattle.replica_course.specs.Parts.{take_of, took_of};
 ghost use Rattle.message_drafts.specs.Taking.{TakesHeeded};
-ghost use Rattle.batch_storage.specs.Kept.{KeepsBatch};
+ghost use Rattle.batch_storage.specs.Kept.{KeepsBatch, StillKeeps};
 ghost use Rattle.batch_storage.specs.Shown.{Costs};
 
 use crate::answer::Answer;
@@ -82,6 +82,7 @@ impl Course {
         ensures kept { IfOk result (λ ok. KeepsBatch (S.keeps storage.new setup.now.replicas) self.old.kept batch.now ok) }
         ensures kept_err { OnErr result (S.keeps storage.new setup.now.replicas self.old.kept Up) }
         ensures costs { Costs (S.shows storage.old) (S.shows storage.new) (result ≡ Ok false) }
+        ensures still { OnErr result (StillKeeps (S.keeps storage.old setup.now.replicas) (S.keeps storage.new setup.now.replicas)) }
     {
         self.ready(alloc, setup, batch)?;
         self.make_room(alloc, self.entry(stamp, ask, Outcome::DiskBroken))?;
@@ -141,6 +142,7 @@ impl Course {
         ensures ended { HasEnded setup.now (asks.Do inst.now) heard.Nothing self.old self.new result }
         ensures kept { S.keeps storage.new setup.now.replicas self.new.kept (running_of self.new) }
         ensures costs { Costs (S.shows storage.old) (S.shows storage.new) (BreaksDisk result) }
+        ensures still { OnErr result (StillKeeps (S.keeps storage.old setup.now.replicas) (S.keeps storage.new setup.now.replicas)) }
     {
         let stamp = self.stamp_after(0);
         let ask = Ask::Do(*inst);
@@ -185,6 +187,7 @@ impl Course {
         ensures ended { HasEnded setup.now (take_of message.now) (heard.Message message.now) self.old self.new result }
         ensures kept { S.keeps storage.new setup.now.replicas self.new.kept (running_of self.new) }
         ensures costs { Costs (S.shows storage.old) (S.shows storage.new) (BreaksDisk result) }
+        ensures still { OnErr result (StillKeeps (S.keeps storage.old setup.now.replicas) (S.keeps storage.new setup.now.replicas)) }
     {
         let stamp = self.stamp_after(message.stamp);
         let ask = take_ask(message);

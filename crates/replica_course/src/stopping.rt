@@ -9,7 +9,7 @@ ghost use Rattle.run_model.specs.Worlds.{Up, Down};
 ghost use Rattle.replica_core.specs.Decisions.{IsDecided, StaysSame};
 ghost use Rattle.replica_core.specs.Replicas.{IsReplica, view_of};
 ghost use Rattle.replica_core.specs.declared.replica.Replica.{Replica as ReplicaOf};
-ghost use Rattle.batch_storage.specs.Kept.{KeepsFound};
+ghost use Rattle.batch_storage.specs.Kept.{KeepsFound, StillKeeps};
 ghost use Rattle.batch_storage.specs.Shown.{Costs};
 ghost use Rattle.batch_storage.specs.declared.storage.Found.TheVariants as found;
 
@@ -53,6 +53,7 @@ impl Course {
         ensures ended { HasEnded setup.now asks.Crash heard.Nothing self.old self.new result }
         ensures kept { S.keeps storage.new setup.now.replicas self.new.kept (running_of self.new) }
         ensures costs { Costs (S.shows storage.old) (S.shows storage.new) (BreaksDisk result) }
+        ensures still { OnErr result (StillKeeps (S.keeps storage.old setup.now.replicas) (S.keeps storage.new setup.now.replicas)) }
     {
         let entry = self.write(alloc, self.stamp_after(0), &Ask::Crash, Outcome::Stopped)?;
         storage.stop();
@@ -107,6 +108,7 @@ impl Course {
         ensures found { (c : CourseOf) (room : EntryOf) → self.now ≡ with_room room c → IfOk result (KeepsFound (S.keeps storage.new setup.now.replicas) c.kept (pending_in self.now.state)) }
         ensures err { (c : CourseOf) (room : EntryOf) → self.now ≡ with_room room c → OnErr result (S.keeps storage.new setup.now.replicas c.kept (running_of self.now)) }
         ensures costs { Costs (S.shows storage.old) (S.shows storage.new) (result ≡ Ok found.Broken) }
+        ensures still { OnErr result (StillKeeps (S.keeps storage.old setup.now.replicas) (S.keeps storage.new setup.now.replicas)) }
     {
         match &self.state {
             State::Down(pending) => {
@@ -215,6 +217,7 @@ impl Course {
         ensures ended { HasEnded setup.now asks.Recover heard.Nothing self.old self.new result }
         ensures kept { S.keeps storage.new setup.now.replicas self.new.kept (running_of self.new) }
         ensures costs { Costs (S.shows storage.old) (S.shows storage.new) (BreaksDisk result) }
+        ensures still { OnErr result (StillKeeps (S.keeps storage.old setup.now.replicas) (S.keeps storage.new setup.now.replicas)) }
     {
         // The replica and all room come first: once the disk has restarted nothing may be refused.
         let stamp = self.stamp_after(0);

@@ -1,6 +1,6 @@
 //! A replica over its storage and its ends.
 
-ghost use Rattle.std.specs.Prelude.{◌≡◌, ◌≤◌, ◌<◌, ℕ, List as Sequence, Option, Some, [], false, IfOk, length, replicate, slice_get, slice_index_or};
+ghost use Rattle.std.specs.Prelude.{◌≡◌, ◌≤◌, ◌<◌, ℕ, List as Sequence, Option, Some, [], false, IfOk, OnErr, length, replicate, slice_get, slice_index_or};
 ghost use Rattle.ind_disk.specs.Bay.{IsEmpty, TellsAll};
 ghost use Rattle.run_model.specs.declared.message.Message.{Message as MessageOf};
 ghost use Rattle.run_model.specs.declared.step.Ask.TheVariants as asks;
@@ -8,6 +8,7 @@ ghost use Rattle.run_model.specs.declared.step.Outcome.TheVariants as outcomes;
 ghost use Rattle.run_model.specs.Fitting.{SetupFits};
 ghost use Rattle.run_model.specs.Worlds.{Up, no_cut};
 ghost use Rattle.spec_model.specs.declared.plan.Setup.{Setup as SetupOf};
+ghost use Rattle.batch_storage.specs.Kept.{StillKeeps};
 ghost use Rattle.batch_storage.specs.Shown.{Costs};
 ghost use Rattle.local_runs.specs.Handed.{AskFits, IsPeer};
 ghost use Rattle.replica_course.specs.Courses.{HasStops, running_of};
@@ -123,6 +124,7 @@ impl<S: Storage + Drop, E: Ends + Drop> Node<S, E> {
         ensures answers { Answers ask self.old.still.course self.new.still.course result }
         ensures ends { self.new.ends ≡ self.old.ends }
         ensures costs { Costs (S.shows self.old.still.storage) (S.shows self.new.still.storage) (BreaksDisk result) }
+        ensures still { OnErr result (StillKeeps (S.keeps self.old.still.storage setup.now.replicas) (S.keeps self.new.still.storage setup.now.replicas)) }
         ensures busy { FindsNone result → ⊥ }
     {
         self.still.act(alloc, setup, ask)
@@ -170,6 +172,7 @@ impl<S: Storage + Drop, E: Ends + Drop> Node<S, E> {
         ensures mark { E.mark self.new.ends ≡ E.mark self.old.ends }
         ensures idles { E.idles self.new.ends ≡ E.idles self.old.ends }
         ensures costs { Costs (S.shows self.old.still.storage) (S.shows self.new.still.storage) (BreaksDisk result) }
+        ensures still { OnErr result (StillKeeps (S.keeps self.old.still.storage setup.now.replicas) (S.keeps self.new.still.storage setup.now.replicas)) }
     {
         let number = self.count_for(to);
         let ask = Ask::Send {
@@ -216,6 +219,7 @@ impl<S: Storage + Drop, E: Ends + Drop> Node<S, E> {
         ensures answers { Answers (asks.Take from None) self.old.still.course self.new.still.course result }
         ensures mark { E.mark self.new.ends ≡ E.mark self.old.ends }
         ensures costs { Costs (S.shows self.old.still.storage) (S.shows self.new.still.storage) (BreaksDisk result) }
+        ensures still { OnErr result (StillKeeps (S.keeps self.old.still.storage setup.now.replicas) (S.keeps self.new.still.storage setup.now.replicas)) }
         ensures idles { CountsNone (FindsNone result) (E.idles self.old.ends) (E.idles self.new.ends) }
     {
         self.fetch(setup, from);
@@ -232,6 +236,7 @@ impl<S: Storage + Drop, E: Ends + Drop> Node<S, E> {
         ensures mark { E.mark self.new.ends ≡ E.mark self.old.ends }
         ensures idles { E.idles self.new.ends ≡ E.idles self.old.ends }
         ensures costs { Costs (S.shows self.old.still.storage) (S.shows self.new.still.storage) (BreaksDisk result) }
+        ensures still { OnErr result (StillKeeps (S.keeps self.old.still.storage setup.now.replicas) (S.keeps self.new.still.storage setup.now.replicas)) }
     {
         if self.still.is_up() {
             self.send_up(alloc, setup, to)
@@ -249,6 +254,7 @@ impl<S: Storage + Drop, E: Ends + Drop> Node<S, E> {
         ensures answers { Answers (asks.Take from None) self.old.still.course self.new.still.course result }
         ensures mark { E.mark self.new.ends ≡ E.mark self.old.ends }
         ensures costs { Costs (S.shows self.old.still.storage) (S.shows self.new.still.storage) (BreaksDisk result) }
+        ensures still { OnErr result (StillKeeps (S.keeps self.old.still.storage setup.now.replicas) (S.keeps self.new.still.storage setup.now.replicas)) }
         ensures idles { CountsNone (FindsNone result) (E.idles self.old.ends) (E.idles self.new.ends) }
     {
         if self.still.is_up() {
@@ -272,6 +278,7 @@ impl<S: Storage + Drop, E: Ends + Drop> Node<S, E> {
         ensures answers { Answers ask self.old.still.course self.new.still.course result }
         ensures mark { E.mark self.new.ends ≡ E.mark self.old.ends }
         ensures costs { Costs (S.shows self.old.still.storage) (S.shows self.new.still.storage) (BreaksDisk result) }
+        ensures still { OnErr result (StillKeeps (S.keeps self.old.still.storage setup.now.replicas) (S.keeps self.new.still.storage setup.now.replicas)) }
         ensures idles { CountsNone (FindsNone result) (E.idles self.old.ends) (E.idles self.new.ends) }
     {
         match ask {

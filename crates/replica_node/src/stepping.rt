@@ -2,6 +2,7 @@
 
 ghost use Rattle.std.specs.Prelude.{◌≡◌, ◌<◌, ◌++◌, List, IfOk, OnErr, length};
 ghost use Rattle.run_model.specs.Worlds.{Sending};
+ghost use Rattle.batch_storage.specs.Kept.{StillKeeps};
 ghost use Rattle.batch_storage.specs.Shown.{Costs};
 ghost use Rattle.local_runs.specs.Handed.{HandSteps, IsHeeded, heard_of};
 ghost use Rattle.run_model.specs.Locals.{LocalSteps};
@@ -44,6 +45,7 @@ pub(crate) fn step_with<S: Storage>(
     ensures local { IfOk result (λ answer. (sendings : List Sending) → IsCounted ask sendings → IsHeeded setup.now course.old.me (local_of setup.now.replicas sendings course.old) (message_in heard.now)
         → LocalSteps setup.now course.old.me (heard_of (message_in heard.now)) (local_of setup.now.replicas sendings course.old) answer.entry (local_of setup.now.replicas (sendings ++ sent_by ask answer.entry.stamp answer.sent) course.new)) }
     ensures costs { Costs (S.shows storage.old) (S.shows storage.new) (BreaksDisk result) }
+    ensures still { OnErr result (StillKeeps (S.keeps storage.old setup.now.replicas) (S.keeps storage.new setup.now.replicas)) }
     ensures err { OnErr result (IsAsBefore course.old course.new) }
 {
     decided_grow();

@@ -5,6 +5,7 @@ ghost use Rattle.std.specs.List.{AllByRecursion};
 ghost use Rattle.run_model.specs.declared.message.Message.{Message as MessageOf};
 ghost use Rattle.run_model.specs.declared.step.Ask.TheVariants as asks;
 ghost use Rattle.run_model.specs.Worlds.{Up};
+ghost use Rattle.batch_storage.specs.Kept.{StillKeeps};
 ghost use Rattle.batch_storage.specs.Shown.{Costs, shown_of};
 ghost use Rattle.local_runs.specs.Handed.{AskFits, IsPeer, IsRefused};
 ghost use Rattle.replica_course.specs.Courses.{history_of, running_of};
@@ -78,6 +79,7 @@ impl<S: Storage + Drop> Still<S> {
         ensures unrefused { IfOk result (λ entry. (to : ℕ) → IsRefused to entry → ⊥) }
         ensures busy { FindsNone result → ⊥ }
         ensures costs { Costs (S.shows self.old.storage) (S.shows self.new.storage) (BreaksDisk result) }
+        ensures still { OnErr result (StillKeeps (S.keeps self.old.storage setup.now.replicas) (S.keeps self.new.storage setup.now.replicas)) }
     {
         let nothing = Heard::Nothing;
         let Answer { entry, .. } = step_with(
@@ -107,6 +109,7 @@ impl<S: Storage + Drop> Still<S> {
         ensures asked { IfOk result (λ entry. entry.ask ≡ asks.Take from (number_in (slice_index_or self.old.hands from heards.Nothing))) }
         ensures hands { IfOk result (λ entry. self.new.hands ≡ slice_set self.old.hands from heards.Nothing) }
         ensures costs { Costs (S.shows self.old.storage) (S.shows self.new.storage) (BreaksDisk result) }
+        ensures still { OnErr result (StillKeeps (S.keeps self.old.storage setup.now.replicas) (S.keeps self.new.storage setup.now.replicas)) }
     {
         let at = from as usize;
         let heard = &self.hands.as_slice()[at];
@@ -166,6 +169,7 @@ impl<S: Storage + Drop> Still<S> {
         ensures asked { IfOk result (λ entry. entry.ask ≡ asks.Take message.from (Some message.number)) }
         ensures hands { self.new.hands ≡ self.old.hands }
         ensures costs { Costs (S.shows self.old.storage) (S.shows self.new.storage) (BreaksDisk result) }
+        ensures still { OnErr result (StillKeeps (S.keeps self.old.storage setup.now.replicas) (S.keeps self.new.storage setup.now.replicas)) }
     {
         let ask = Ask::Take {
             from: message.from,
@@ -201,6 +205,7 @@ impl<S: Storage + Drop> Still<S> {
         ensures closing { IfOk result (IsClosing message) }
         ensures down { IfOk result (λ entry. running_of self.old.course ≢ Up → running_of self.new.course ≢ Up) }
         ensures costs { Costs (S.shows self.old.storage) (S.shows self.new.storage) (BreaksDisk result) }
+        ensures still { OnErr result (StillKeeps (S.keeps self.old.storage setup.now.replicas) (S.keeps self.new.storage setup.now.replicas)) }
     {
         if self.is_up() {
             self.take_this(alloc, setup, message)
@@ -228,6 +233,7 @@ impl<S: Storage + Drop> Still<S> {
         ensures answers { Answers (asks.Take from None) self.old.course self.new.course result }
         ensures rests { IfOk result (λ entry. RestsDown (asks.Take from None) self.old.course entry self.new.course) }
         ensures costs { Costs (S.shows self.old.storage) (S.shows self.new.storage) (BreaksDisk result) }
+        ensures still { OnErr result (StillKeeps (S.keeps self.old.storage setup.now.replicas) (S.keeps self.new.storage setup.now.replicas)) }
     {
         let entry = self.act(alloc, setup, Ask::Take { from, number: None })?;
         self.hands.set(from as usize, Heard::Nothing);

@@ -1,6 +1,7 @@
 -- What the storages keep, and the stops of their disks, over a step of one replica.
-use Rattle.std.proofs.Common.{◌≡◌, inl, inr, ℕ, List, [], ◌∷◌, ◌++◌, refl, sym, ap, subst, ◌∙◌, length-set}
-use Rattle.std.specs.Prelude.{slice_get, slice_set, Some}
+use Rattle.std.proofs.Common.{◌≡◌, inl, inr, ℕ, List, [], ◌∷◌, ◌++◌, Result, Ok, Err, refl, sym, ap, subst, ◌∙◌, length-set}
+use Rattle.std.specs.Prelude.{slice_get, slice_set, Some, OnErr}
+use Rattle.ind_base.specs.declared.refusal.NoMemory.{NoMemory}
 use Rattle.std.proofs.lemmas.Bool.Decides.{eqb_tells}
 use Rattle.std.proofs.lemmas.Option.{slice_get_within}
 use Rattle.spec_model.specs.declared.plan.Setup.{Setup}
@@ -8,10 +9,11 @@ use Rattle.run_model.specs.declared.batch.Batch.{Batch}
 use Rattle.run_model.specs.declared.step.StepEntry.{StepEntry}
 use Rattle.run_model.specs.Worlds.{Running}
 use Rattle.run_model.proofs.Lists.{get_set_other, get_set_same}
+use Rattle.batch_storage.specs.Kept.{StillKeeps}
 use Rattle.batch_storage.specs.Shown.{Costs, Shown}
 use Rattle.replica_course.specs.Courses.{HasStops, running_of}
 use Rattle.replica_course.specs.declared.course.Course.{Course}
-use Rattle.replica_world.specs.Worlds.{AreKept, HasStopsAt}
+use Rattle.replica_world.specs.Worlds.{AreKept, HasStopsAt, StillKeepsAt}
 
 -- what stands at a place, once one place was set
 pub set_same : {X : Type 0} (xs : List X) (i : ℕ) (old new x : X) → slice_get xs i ≡ Some old → slice_get (slice_set xs i new) i ≡ Some x → new ≡ x
@@ -30,6 +32,15 @@ kept_more keeps setup me courses storages c after s last was had now h = record 
     | inr ne ↦ h.each j d t (get_set_other courses me j after d ne.1 is) (get_set_other storages me j last t ne.1 there)
   ];
 }
+
+-- a refusal at a replica keeps what its storage keeps still
+pub still_at : {S T : Type 0} (keeps : S → ℕ → List Batch → Running → Type 0) (setup : Setup) (me : ℕ) (storages : List S) (s last : S) (r : Result T NoMemory) → slice_get storages me ≡ Some s
+    → OnErr r (StillKeeps (keeps s setup.replicas) (keeps last setup.replicas)) → OnErr r (StillKeepsAt keeps setup me storages (slice_set storages me last))
+still_at keeps setup me storages s last (Ok x) had h = tt
+still_at keeps setup me storages s last (Err e) had h = λ t u was is batches running kept.
+    let before : Some t ≡ Some s = sym was ∙ had in
+    let same : t ≡ s = cc in
+    subst (λ v. keeps v setup.replicas batches running) (set_same storages me s last u had is) (h batches running (subst (λ v. keeps v setup.replicas batches running) same kept))
 
 -- ---- stops
 

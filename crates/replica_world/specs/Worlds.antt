@@ -9,6 +9,7 @@ use Rattle.run_model.specs.Logs.{log_at}
 use Rattle.run_model.specs.Locals.{StandsIn}
 use Rattle.run_model.specs.Runs.{InOrder, Runs, asks_in, asks_of, entries_at}
 use Rattle.run_model.specs.Worlds.{Running, World, first_world, logs_of}
+use Rattle.batch_storage.specs.Kept.{StillKeeps}
 use Rattle.batch_storage.specs.Shown.{Shown}
 use Rattle.scenario_text.specs.WellFormed.{OrderFits}
 use Rattle.replica_course.specs.Courses.{HasStops, IsCourse, local_of, running_of}
@@ -43,6 +44,10 @@ pub record AreRunning (setup : Setup) (done : List Order) (courses : List Course
 pub record AreKept {S : Type 0} (keeps : S → ℕ → List Batch → Running → Type 0) (setup : Setup) (courses : List Course) (storages : List S) : Type 0 where
   pub whole : length storages ≡ length courses
   pub each : (me : ℕ) (c : Course) (s : S) → slice_get courses me ≡ Some c → slice_get storages me ≡ Some s → keeps s setup.replicas c.kept (running_of c)
+
+-- whatever replica me kept on its disk it keeps still
+abbrev pub StillKeepsAt : {S : Type 0} → (S → ℕ → List Batch → Running → Type 0) → Setup → ℕ → List S → List S → Type 0
+StillKeepsAt keeps setup me old new = (s t : _) → slice_get old me ≡ Some s → slice_get new me ≡ Some t → StillKeeps (keeps s setup.replicas) (keeps t setup.replicas)
 
 -- a replica's disk has these stops still
 abbrev pub HasStopsAt : {S : Type 0} → (S → Shown) → List Course → List S → ℕ → ℕ → Type 0

@@ -84,7 +84,7 @@ fn disks_of<S: Storage + Drop>(alloc: Global, storages: Vec<S>) -> Result<Vec<S:
 
 impl<S: Storage + Drop> World<S> {
     ghost use Rattle.replica_world.specs.Stepping.{AreAsBefore, IsDue, StaysAt, StepsAt, with_room};
-    ghost use Rattle.replica_world.specs.Worlds.{AreKept, AreRunning, HasStopsAt};
+    ghost use Rattle.replica_world.specs.Worlds.{AreKept, AreRunning, HasStopsAt, StillKeepsAt};
 
     /// The replicas before their first steps, each on its empty disk. One whose disk fails begins
     /// down.
@@ -128,6 +128,7 @@ impl<S: Storage + Drop> World<S> {
         ensures links { self.new.links.items ≡ self.old.links.items }
         ensures steps { IfOk result (λ answer. StepsAt setup.now me ask.now self.old.links.items self.old.courses.items answer self.new.courses.items) }
         ensures err { OnErr result (StaysAt setup.now me self.old.courses.items self.new.courses.items) }
+        ensures still { OnErr result (StillKeepsAt S.keeps setup.now me self.old.storages.items self.new.storages.items) }
         ensures kept { AreKept S.keeps setup.now self.new.courses.items self.new.storages.items }
         ensures others { (r : ℕ) → r ≢ me → slice_get self.new.storages.items r ≡ slice_get self.old.storages.items r }
         ensures stops { (r given : ℕ) → HasStopsAt S.shows self.old.courses.items self.old.storages.items r given → HasStopsAt S.shows self.new.courses.items self.new.storages.items r given }
@@ -160,6 +161,7 @@ impl<S: Storage + Drop> World<S> {
         ensures others { (r : ℕ) → r ≢ replica → slice_get self.new.storages.items r ≡ slice_get self.old.storages.items r }
         ensures stops { (me given : ℕ) → HasStopsAt S.shows self.old.courses.items self.old.storages.items me given → HasStopsAt S.shows self.new.courses.items self.new.storages.items me given }
         ensures err { OnErr result (AreAsBefore self.old.courses.items self.new.courses.items × (self.new.links.items ≡ self.old.links.items)) }
+        ensures still { OnErr result (StillKeepsAt S.keeps setup.now replica self.old.storages.items self.new.storages.items) }
         ensures running_still { OnErr result ((done : List OrderOf) → AreRunning setup.now done self.old.courses.items self.old.links.items → AreRunning setup.now done self.new.courses.items self.new.links.items) }
     {
         local_step_is_one();

@@ -58,3 +58,14 @@ returns-in-Err-clause-err g c =
     still_left (g.J.Keeps.stands_for n) c.args.kept.now c.args.pending.now (g.J.D.Disk.standing c.args.disk).bytes (c.requires.left tells)
     g.J.D.Disk.moment g.J.D.Disk.left_since c.args.disk d (g.J.D.Disk.may_leave d) g.J.Keeps.fresh (λ t b le now. g.met.J.D.Disk.counts_now d t b le now)
     (λ batches stands. c.in-Err.ensures.any_moment_err tells batches stands) (λ longest room short. c.in-Err.ensures.short_err tells longest room short) g.met.J.Keeps.fresh_within)
+
+pub returns-in-Err-clause-still : goal.returns-in-Err-clause-still
+returns-in-Err-clause-still g c =
+    let n = c.args.replicas in
+    let d = c.in-Err.failed.disk in
+    on_err c.found_by.result
+    (λ batches next was new_tells.
+    let tells = subst (λ (b : Bool). IsTrue b) c.in-Err.ensures.run_err.tells new_tells in
+    still_left (g.J.Keeps.stands_for n) batches next (g.J.D.Disk.standing c.args.disk).bytes (was tells)
+    g.J.D.Disk.moment g.J.D.Disk.left_since c.args.disk d (g.J.D.Disk.may_leave d) g.J.Keeps.fresh (λ t b le now. g.met.J.D.Disk.counts_now d t b le now)
+    (λ xs stands. c.in-Err.ensures.any_moment_err tells xs stands) (λ longest room short. c.in-Err.ensures.short_err tells longest room short) g.met.J.Keeps.fresh_within)

@@ -1,5 +1,5 @@
 use Rattle.replica_world.proofs.Answered.{ready, stays_at, steps_at, stops_if}
-use Rattle.replica_world.proofs.Kept.{kept_more}
+use Rattle.replica_world.proofs.Kept.{kept_more, still_at}
 use Rattle.replica_world.proofs.world.World.answer.Goals as goal
 
 pub step-requires-clause-own : goal.step-requires-clause-own
@@ -41,3 +41,8 @@ pub returns-clause-stops : goal.returns-clause-stops
 returns-clause-stops g c =
     let r = ready c.in_hand-heard.result.now c.requires.due c.requires.kept c.index_mut-course.ensures.value c.index_mut.ensures.value c.deref.ensures.value c.in_hand-heard.ensures in
     stops_if g.S.Storage.shows c.args.setup.now c.args.me c.args.ask.now c.args.self.now.courses.items c.args.self.now.storages.items c.index_mut-course.result.now c.step.new.self c.index_mut.result.now c.step.new.storage c.in_hand-heard.result.now c.step.result r.was r.had c.step.ensures.steps c.step.ensures.err c.step.ensures.costs
+
+pub returns-clause-still : goal.returns-clause-still
+returns-clause-still g c =
+    let r = ready c.in_hand-heard.result.now c.requires.due c.requires.kept c.index_mut-course.ensures.value c.index_mut.ensures.value c.deref.ensures.value c.in_hand-heard.ensures in
+    still_at g.S.Storage.keeps c.args.setup.now c.args.me c.args.self.now.storages.items c.index_mut.result.now c.step.new.storage c.step.result r.had c.step.ensures.still
