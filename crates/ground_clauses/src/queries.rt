@@ -28,7 +28,7 @@ use crate::slots::Slots;
 use crate::state_lit::{StateLit, Variable};
 use crate::table::{Touches, entry, touches_by};
 use crate::three_states::{OneState, ThreeStates, has_number};
-use crate::touched::{first_acting, second_acting, target_classes};
+use crate::touched::{parts_of, target_classes};
 use ind_base::{List, NoMemory};
 use spec_model::{Atom, Clause, Entry, Literal, Moment, Spec, Touch};
 use std::alloc::Global;
@@ -104,10 +104,9 @@ fn list_variables(
 {
     touches.truncate(0);
     variables.truncate(0);
-    let first = first_acting(spec, case);
-    let second = second_acting(spec, case);
+    let parts = parts_of(spec, case);
     for atom in atoms {
-        let touched = touches_by(spec, &first, &second, atom);
+        let touched = touches_by(spec, &parts.first, &parts.second, atom);
         add_variables(atom, touched, variables)?;
         touches.push(touched)?;
     }

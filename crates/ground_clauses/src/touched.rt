@@ -132,27 +132,40 @@ pub(crate) struct Acting<'a> {
     pub(crate) bits: u32,
 }
 
-/// The first operation of a case.
-pub(crate) fn first_acting<'a>(spec: &'a Spec, case: &'a Case) -> Acting<'a>
-    requires { CaseKnown spec.now case.now }
-    ensures { acts result ≡ (cases.case_sets spec.now case.now).one }
-{
-    Acting {
-        op: op_at(spec, case.a),
-        classes: first_classes(spec, case),
-        bits: case.bits_a,
-    }
+/// A case's classes, parted: its two operations with theirs, and those of the target.
+#[derive(Clone, Copy)]
+pub(crate) struct CaseParts<'a> {
+    pub(crate) first: Acting<'a>,
+    pub(crate) second: Acting<'a>,
+    pub(crate) target: &'a [u32],
 }
 
-/// The second operation of a case.
-pub(crate) fn second_acting<'a>(spec: &'a Spec, case: &'a Case) -> Acting<'a>
+/// Parts the classes of a case.
+pub(crate) fn parts_of<'a>(spec: &'a Spec, case: &'a Case) -> CaseParts<'a>
     requires { CaseKnown spec.now case.now }
-    ensures { acts result ≡ (cases.case_sets spec.now case.now).other }
+    ensures first { acts result.first ≡ (cases.case_sets spec.now case.now).one }
+    ensures second { acts result.second ≡ (cases.case_sets spec.now case.now).other }
+    ensures target { result.target.now ≡ cases.target_classes spec.now case.now }
 {
-    Acting {
-        op: op_at(spec, case.b),
-        classes: second_classes(spec, case),
-        bits: case.bits_b,
+    let first = op_at(spec, case.a);
+    let second = op_at(spec, case.b);
+    let (first_classes, rest) = split_front(
+        case.classes.as_slice(),
+        plain_count(first.params.as_slice()),
+    );
+    let (second_classes, target) = split_front(rest, plain_count(second.params.as_slice()));
+    CaseParts {
+        first: Acting {
+            op: first,
+            classes: first_classes,
+            bits: case.bits_a,
+        },
+        second: Acting {
+            op: second,
+            classes: second_classes,
+            bits: case.bits_b,
+        },
+        target,
     }
 }
 
@@ -264,8 +277,8 @@ fn clause_front(spec: &Spec, case: &Case, place: u32) -> bool
     ensures { result ≡ front_at spec.now case.now place }
 {
     let clause = clause_at(spec, place);
-    let classes = target_classes(spec, case);
-    !equalities_true(clause, classes) && touches(&first_acting(spec, case), clause, classes)
+    let parts = parts_of(spec, case);
+    !equalities_true(clause, parts.target) && touches(&parts.first, clause, parts.target)
 }
 
 /// Whether the second operation touches the clause.
@@ -274,8 +287,8 @@ fn clause_behind(spec: &Spec, case: &Case, place: u32) -> bool
     requires clause { place < length spec.now.clauses }
     ensures { result ≡ cases.touches (cases.case_sets spec.now case.now).other (cases.target_of spec.now case.now place) }
 {
-    let classes = target_classes(spec, case);
-    touches(&second_acting(spec, case), clause_at(spec, place), classes)
+    let parts = parts_of(spec, case);
+    touches(&parts.second, clause_at(spec, place), parts.target)
 }
 
 /// Whether the two operations give the locked predicate's atom opposite truths.

@@ -16,8 +16,8 @@ loop-atom-preserved c =
     let touched : ClassAtom → Touches = touches_at c.args.spec.now sets in
     let own : ClassAtom → List Variable = atom_variables c.args.spec.now sets in
     let found : c.touches_by-touched.result ≡ touched c.atom-item.result =
-    own_touches c.args.spec.now sets c.atom-item.result c.touches_by-touched.result (acts c.first_acting-first.result) (acts c.second_acting-second.result)
-    c.first_acting-first.ensures c.second_acting-second.ensures c.touches_by-touched.ensures.first c.touches_by-touched.ensures.second in
+    own_touches c.args.spec.now sets c.atom-item.result c.touches_by-touched.result (acts c.parts_of-parts.result.first) (acts c.parts_of-parts.result.second)
+    c.parts_of-parts.ensures.first c.parts_of-parts.ensures.second c.touches_by-touched.ensures.first c.touches_by-touched.ensures.second in
     record {
       touches = more_mapped touched c.args.atoms.now c.loop-atom.atom-index c.atom-item.result c.loop-atom.touches c.push.new.self c.touches_by-touched.result (map touched c.args.atoms.now) c.loop-atom-test.true
           c.in_ok-push.ensures.ok (found ∙ ap touched c.atom-item.is) c.loop-atom.invariant.touches;
