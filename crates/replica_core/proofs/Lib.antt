@@ -15,6 +15,7 @@ pub mod Entered
 pub mod Doing
 pub mod Silent
 pub mod Replayed
+pub mod Readied
 pub mod Sending
 pub mod Showing
 pub mod Dropped

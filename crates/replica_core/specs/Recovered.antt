@@ -1,9 +1,18 @@
 -- A replica that is made again from the batches that it committed.
-use Rattle.std.specs.Prelude.{◌≡◌, ℕ, ◌+◌, ◌≤◌, List, [], ◌∷◌, length, replicate}
+use Rattle.std.specs.Prelude.{◌≡◌, ℕ, ◌+◌, ◌≤◌, List, [], ◌∷◌, length, replicate, Some}
+use Rattle.std.specs.List.{AllByRecursion}
 use Rattle.spec_model.specs.declared.plan.Setup.{Setup}
+use Rattle.spec_model.specs.declared.instance.Inst.{Inst}
 use Rattle.spec_model.specs.declared.log.LogItem.{LogItem}
+use Rattle.spec_model.specs.Changes.{effect_lines}
+use Rattle.spec_model.specs.Needs.{needs}
+use Rattle.spec_model.specs.Truths.{Truths}
 use Rattle.run_model.specs.declared.batch.Batch.{Batch}
 use Rattle.run_model.specs.Worlds.{no_told}
+use Rattle.run_model.specs.Fitting.{NeedFits}
+use Rattle.rights_table.specs.Cells.{AreCellsEntered}
+use Rattle.rights_table.specs.Whole.{AreNeedsEntered}
+use Rattle.replica_core.specs.Next.{act_among}
 use Rattle.replica_core.specs.Decisions.{IsDecided}
 use Rattle.run_model.specs.Batches.{items_of}
 use Rattle.run_model.specs.Logs.{Logs, with_all}
@@ -18,6 +27,17 @@ pub record HasReplayed (setup : Setup) (items : List LogItem) (old new : Replica
   pub wants : new.wants ≡ old.wants
   pub told : new.told ≡ old.told
   pub grown : length (own_log new) ≤ length (own_log old) + 24
+
+-- there are entries for what an act of its own changes and needs, and its needs are kept, whatever the truths before it are
+pub record IsReadied (setup : Setup) (inst : Inst) (r : Replica) : Type 0 where
+  pub cells : AreCellsEntered setup.spec inst (effect_lines setup.spec inst) r.table
+  pub needed : AreNeedsEntered r.needs r.table
+  pub fits : AllByRecursion (NeedFits setup) r.needs
+  pub needs : (s : Truths) → r.needs ≡ needs setup s inst
+
+-- so it is where these items are one act of its own and no masks look at the truths
+abbrev pub IsReadiedBy : Setup → List LogItem → Replica → Type 0
+IsReadiedBy setup items r = setup.plan.masks ≡ [] → (inst : Inst) → act_among r.me items ≡ Some inst → IsReadied setup inst r
 
 -- replica me decides on each of the batches, where it knows these logs and the items of the batches before
 abbrev pub AreDecided : Setup → ℕ → Logs → List Batch → Type 0

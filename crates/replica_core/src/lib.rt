@@ -8,6 +8,7 @@ mod recovery;
 mod replica;
 mod reports;
 mod requesting;
+mod same;
 mod taking;
 
 pub use decision::Decision;

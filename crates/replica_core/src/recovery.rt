@@ -6,6 +6,7 @@ ghost use Rattle.run_model.specs.Fitting.{SetupFits};
 ghost use Rattle.causal_store.specs.Stores.{IsShort};
 
 use crate::replica::Replica;
+use crate::same::same_act;
 use ind_base::NoMemory;
 use run_model::Batch;
 use spec_model::{LogItem, Setup};
@@ -13,8 +14,9 @@ use std::alloc::Global;
 
 impl Replica {
     ghost use Rattle.replica_core.specs.Replicas.{HasRoom, IsReplica, view_of};
-    ghost use Rattle.replica_core.specs.Decisions.{IsDecided, IsReadyFor};
-    ghost use Rattle.replica_core.specs.Recovered.{AreCommitted, HasReplayed, IsRecovered};
+    ghost use Rattle.replica_core.specs.Decisions.{IsDecided, IsReadyFor, StaysSame};
+    ghost use Rattle.replica_core.specs.Next.{HasPut};
+    ghost use Rattle.replica_core.specs.Recovered.{AreCommitted, HasReplayed, IsReadiedBy, IsRecovered};
 
     /// How many items stand before the first one of its own.
     fn others(&self, items: &[LogItem]) -> usize
@@ -36,7 +38,8 @@ impl Replica {
         requires decided { IsDecided setup.now (view_of self.old) batch.now }
         requires room { HasRoom 24 self.old }
         requires ready { IsReadyFor setup.now self.old batch.now.items }
-        ensures { HasReplayed setup.now batch.now.items self.old self.new }
+        ensures replayed { HasReplayed setup.now batch.now.items self.old self.new }
+        ensures put { HasPut self.old self.new }
     {
         let items = batch.items.as_slice();
         let (others, own) = items.split_at(self.others(items));
@@ -44,14 +47,44 @@ impl Replica {
         self.put_all(setup, own);
     }
 
+    /// Makes room for what it decided on, behind the items that it replayed last. The same act
+    /// again finds its entries in the table, and where no masks look at the state its needs too.
+    fn ready_behind(
+        &mut self,
+        alloc: Global,
+        setup: &Setup,
+        last: &[LogItem],
+        batch: &Batch,
+    ) -> Result<(), NoMemory>
+        requires own { IsReplica setup.now self.old.me self.old }
+        requires decided { IsDecided setup.now (view_of self.old) batch.now }
+        requires readied { IsReadiedBy setup.now last.now self.old }
+        ensures same { StaysSame setup.now self.old self.new }
+        ensures ready { OnOk result (IsReadyFor setup.now self.new batch.now.items) }
+    {
+        let items = batch.items.as_slice();
+        if setup.plan.masks.is_empty() && same_act(self.me, last, items) {
+            return self.store.ready(items);
+        }
+        self.ready(alloc, setup, batch)
+    }
+
     /// Makes room for what it decided on, and applies and logs it again.
-    fn replay_ready(&mut self, alloc: Global, setup: &Setup, batch: &Batch) -> Result<(), NoMemory>
+    fn replay_ready(
+        &mut self,
+        alloc: Global,
+        setup: &Setup,
+        last: &[LogItem],
+        batch: &Batch,
+    ) -> Result<(), NoMemory>
         requires own { IsReplica setup.now self.old.me self.old }
         requires decided { IsDecided setup.now (view_of self.old) batch.now }
         requires room { HasRoom 24 self.old }
-        ensures { OnOk result (HasReplayed setup.now batch.now.items self.old self.new) }
+        requires readied { IsReadiedBy setup.now last.now self.old }
+        ensures replayed { OnOk result (HasReplayed setup.now batch.now.items self.old self.new) }
+        ensures readied { OnOk result (IsReadiedBy setup.now batch.now.items self.new) }
     {
-        self.ready(alloc, setup, batch)?;
+        self.ready_behind(alloc, setup, last, batch)?;
         self.replay(setup, batch);
         Ok(())
     }
@@ -74,8 +107,10 @@ impl Replica {
         ensures short { IfOk result (λ r. IsShort r.store) }
     {
         let mut replica = Replica::begin(alloc, setup, me)?;
+        let mut last: &[LogItem] = &[];
         for batch in batches {
-            replica.replay_ready(alloc, setup, batch)?;
+            replica.replay_ready(alloc, setup, last, batch)?;
+            last = batch.items.as_slice();
         }
         Ok(replica)
     }

@@ -1,6 +1,7 @@
 use Rattle.std.proofs.Common.{[], ◌+◌, List, length, drop, replicate, sym, ap, ◌∙◌, subst, arith}
+use Rattle.spec_model.specs.declared.log.LogItem.{LogItem}
 use Rattle.run_model.specs.declared.batch.Batch.{Batch}
-use Rattle.replica_core.specs.Recovered.{AreDecided}
+use Rattle.replica_core.specs.Recovered.{AreDecided, IsReadiedBy}
 use Rattle.replica_core.specs.Replicas.{IsReplica}
 use Rattle.replica_core.proofs.Changes.{own_again}
 use Rattle.run_model.specs.Logs.{Logs, log_at, with_all}
@@ -24,7 +25,7 @@ loop-batch-preserved c =
     let k = c.loop-batch.batch-index in
     let x : Batch = c.batch-item.result in
     let old = c.loop-batch.replica in
-    let h = c.in_ok-replay_ready.ensures in
+    let h = c.in_ok-replay_ready.ensures.replayed in
     let rest = decided_next setup c.args.me old batches k x c.loop-batch.invariant.own c.loop-batch-test.true c.batch-item.is c.loop-batch.invariant.rest in
     record {
       own = subst (λ i. IsReplica setup i c.replay_ready.new.self) c.loop-batch.invariant.own.me_is h.own;
@@ -33,6 +34,7 @@ loop-batch-preserved c =
       told = h.told ∙ c.loop-batch.invariant.told;
       rest = subst (λ (l : Logs). AreDecided setup c.args.me l (drop (k + 1) batches)) (sym h.knows) rest.1;
       short = omega (arith, c.loop-batch.invariant.short, h.grown);
+      readied = subst (λ (l : List LogItem). IsReadiedBy setup l c.replay_ready.new.self) (sym c.as_slice-last.ensures.value) c.in_ok-replay_ready.ensures.readied;
       each = λ j.
           let few = decided_short setup old x (own_again setup c.args.me old c.loop-batch.invariant.own) rest.0 in
           let was = c.loop-batch.invariant.each j in

@@ -2,7 +2,7 @@ use Rattle.std.specs.Prelude.{◌≡◌, ℕ, ◌≤◌, ◌*◌, [], drop, leng
 use Rattle.std.specs.List.{flat_map}
 use Rattle.run_model.specs.Logs.{log_at, with_all}
 use Rattle.run_model.specs.Worlds.{no_cut}
-use Rattle.replica_core.specs.Recovered.{AreDecided}
+use Rattle.replica_core.specs.Recovered.{AreDecided, IsReadiedBy}
 use Rattle.replica_core.specs.Replicas.{IsReplica, known_to, own_log}
 use Rattle.replica_core.proofs.replica.Replica.recover.Given as goal
 
@@ -15,5 +15,6 @@ invariant-loop-batch l = record {
   told : l.replica.told ≡ replicate l.setup.replicas (no_cut l.setup.replicas);
   rest : AreDecided l.setup l.me (known_to l.replica) (drop l.batch-index l.batches);
   short : length (own_log l.replica) ≤ l.batch-index * 24;
+  readied : IsReadiedBy l.setup l.last l.replica;
   each : (j : ℕ) → length (log_at (known_to l.replica) j) ≤ l.batch-index * 40;
 }

@@ -2,7 +2,8 @@ use Rattle.std.proofs.Common.{[], List, length, ap, sym, subst, arith}
 use Rattle.std.proofs.lemmas.List.{append-nil}
 use Rattle.spec_model.specs.declared.log.LogItem.{LogItem}
 use Rattle.causal_store.specs.Stores.{HasRoomFor}
-use Rattle.replica_core.proofs.Changes.{own_again}
+use Rattle.replica_core.proofs.Changes.{own_again, put_both}
+use Rattle.replica_core.proofs.Readied.{learned_put}
 use Rattle.replica_core.proofs.Replayed.{Replays, has_replayed, replayed_log, replays_here}
 use Rattle.replica_core.proofs.replica.Replica.replay.Goals as goal
 
@@ -76,8 +77,11 @@ put_all-requires-clause-ready c =
     replays_here setup old c.args.batch.now c.as_slice-items.result.now front own c.others.result c.requires.own c.requires.decided c.as_slice-items.ensures.value c.split_at.ensures.front c.split_at.ensures.back c.others.ensures.others c.others.ensures.own c.others.ensures.within in
     ([], subst (HasRoomFor c.learn.new.self.store) (sym (append-nil own)) (c.learn.ensures.ready own (subst (HasRoomFor old.store) reps.items_are c.requires.ready.room)))
 
-pub returns : goal.returns
-returns c =
+pub returns-clause-put : goal.returns-clause-put
+returns-clause-put c = put_both c.args.self.now c.learn.new.self c.put_all.new.self (learned_put c.args.setup.now c.split_at.result.0.now c.args.self.now c.learn.new.self c.learn.ensures.learned) c.put_all.ensures.put
+
+pub returns-clause-replayed : goal.returns-clause-replayed
+returns-clause-replayed c =
     let setup = c.args.setup.now in
     let old = c.args.self.now in
     let front : List LogItem = c.split_at.result.0.now in

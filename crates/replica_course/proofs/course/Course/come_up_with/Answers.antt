@@ -19,4 +19,4 @@ end_with-requires c =
 
 pub returns : goal.returns
 returns c = λ old h.
-    up_with c.args.setup.now c.args.stamp c.args.replica c.replay.new.self c.in-Some.batch old c.args.self.now c.take_pending.new.self c.end_with.new.self c.entry.result c.entry-in-Some.result h c.in-Some.ensures.pending c.take_pending.ensures.left c.replay.ensures c.entry.ensures c.end_with.ensures c.entry-in-Some.ensures
+    up_with c.args.setup.now c.args.stamp c.args.replica c.replay.new.self c.in-Some.batch old c.args.self.now c.take_pending.new.self c.end_with.new.self c.entry.result c.entry-in-Some.result h c.in-Some.ensures.pending c.take_pending.ensures.left c.replay.ensures.replayed c.entry.ensures c.end_with.ensures c.entry-in-Some.ensures
