@@ -1,8 +1,10 @@
 -- What a start makes of what was kept.
-use Rattle.std.proofs.Common.{◌≡◌, ◌⊎◌, inl, inr, ℕ, ◌+◌, ◌*◌, ◌≤◌, List, [], ◌∷◌, length, Option, Some, Result, Ok, Err, sym, ap, subst, arith, length-append}
+use Rattle.std.proofs.Common.{◌≡◌, ◌⊎◌, inl, inr, ℕ, ◌+◌, ◌*◌, ◌≤◌, List, [], ◌∷◌, ◌++◌, length, take, drop, Option, Some, Result, Ok, Err, sym, ap, subst, ◌∙◌, append_assoc, arith, length-append}
+use Rattle.std.proofs.lemmas.List.{append_cancel_left, take-append-drop}
 use Rattle.std.specs.Prelude.{IfOk, OnErr, IsSomeAnd}
 use Rattle.ind_disk.specs.Disk.{LeavesOnly}
 use Rattle.run_model.specs.declared.batch.Batch.{Batch}
+use Rattle.rights_journal.specs.Reading.{known_and}
 use Rattle.rights_journal.proofs.Moments.{leaves_now}
 use Rattle.batch_storage.specs.Found.{IsWith, IsFound}
 use Rattle.run_model.specs.Worlds.{Running, Up, Down}
@@ -35,6 +37,18 @@ module _ (stands_for : List Batch → List ℕ → Type 0) (kept : List Batch) (
       → length new_bytes ≤ 64 + 7000 * (length kept + 1) → IsStored finished started new_bytes
   stored finished started new_bytes (inl same) fin short = record { whole = fin; short = omega (arith, short, ap length same) }
   stored finished started new_bytes (inr (batch, is, more)) fin short = record { whole = fin; short = omega (arith, short, ap length more, length-append kept (batch ∷ [])) }
+
+-- what stands behind those that are known and the same tells what all of them are
+pub all_found : (same : ℕ) (others kept : List Batch) (pending : Option Batch) (f : Found) → IsFound others (drop same kept) pending f → IsFound (known_and same kept others) kept pending f
+all_found same others kept pending found.Without is = ap (λ (l : List Batch). take same kept ++ l) is ∙ take-append-drop same kept
+all_found same others kept pending found.With (batch, pends, is) =
+    (batch, pends, ap (λ (l : List Batch). take same kept ++ l) is ∙ sym (append_assoc (take same kept) (drop same kept) (batch ∷ [])) ∙ ap (λ (l : List Batch). l ++ batch ∷ []) (take-append-drop same kept))
+all_found same others kept pending found.Broken is = neither
+  where
+    neither : (known_and same kept others ≡ kept) ⊎ IsWith (known_and same kept others) kept pending → ⊥
+    neither (inl all) = is (inl (append_cancel_left (take same kept) others (drop same kept) (all ∙ sym (take-append-drop same kept))))
+    neither (inr (batch, pends, all)) =
+        is (inr (batch, pends, append_cancel_left (take same kept) others (drop same kept ++ batch ∷ []) (all ∙ ap (λ (l : List Batch). l ++ batch ∷ []) (sym (take-append-drop same kept)) ∙ append_assoc (take same kept) (drop same kept) (batch ∷ []))))
 
 module _ {J D : Type 0} (disk_of : J → D) (j : J) where
   -- what a start found is kept

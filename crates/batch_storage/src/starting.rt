@@ -10,7 +10,7 @@ ghost use Rattle.batch_storage.specs.declared.storage.Found.TheVariants as found
 ghost use Rattle.rights_journal.specs.declared.starting.StartWhy.TheVariants as whys;
 ghost use Rattle.run_model.specs.Worlds.{Down};
 
-use crate::found::found_in;
+use crate::found::found_behind;
 use crate::held::{Held, hold};
 use crate::storage::Found;
 use crate::waking::wake;
@@ -55,9 +55,9 @@ pub fn start_on<J: Keeps + Drop>(
     ensures costs { IsAwake (J.D.standing disk) → Costs (shown_of (J.D.standing disk)) (shown_of (J.D.standing (disk_in J.disk_of result.0))) (result.1 ≡ Ok found.Broken) }
 {
     J::one_thing();
-    match J::start(alloc, disk, replicas) {
+    match J::start(alloc, disk, replicas, kept) {
         Ok(started) => {
-            let found = found_in(started.batches.as_slice(), kept, pending);
+            let found = found_behind(started.same, started.batches.as_slice(), kept, pending);
             (hold(started.journal, found), Ok(found))
         }
         Err(failed) => (Held::Disk(failed.disk), found_by(failed.why)),

@@ -36,7 +36,7 @@ fn foreign_at(alloc: Global, bytes: &[u8]) -> Result<Option<u64>, Fail>
     if disk.write_at(0, bytes).is_err() || disk.sync().is_err() {
         return Err(Fail::new("a disk without stops is written"));
     }
-    match Journal::<MemDisk>::start(alloc, disk, 2) {
+    match Journal::<MemDisk>::start(alloc, disk, 2, &[]) {
         Ok(_) => Ok(None),
         Err(failed) => match failed.why {
             StartWhy::Foreign { at } => Ok(Some(at)),

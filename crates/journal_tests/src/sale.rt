@@ -44,7 +44,7 @@ pub fn sell(alloc: Global, disk: MemDisk) -> Result<MemDisk, NoMemory>
     requires { Only (told disk).bytes (Leaves disk.tape.calls) }
 {
     let sale = first_sale(alloc)?;
-    match Journal::<MemDisk>::start(alloc, disk, 2) {
+    match Journal::<MemDisk>::start(alloc, disk, 2, &[]) {
         Ok(started) => {
             let mut journal = started.journal;
             let _went = journal.append(alloc, &sale);

@@ -1,5 +1,5 @@
 -- Reading values one after the other, as a loop does.
-use Rattle.std.proofs.Common.{◌≡◌, ℕ, suc, ◌-◌, ◌+◌, ◌≤◌, ◌<◌, List, [], ◌∷◌, ◌++◌, Option, Some, None, refl, sym, ap, ◌∙◌, append_assoc, arith}
+use Rattle.std.proofs.Common.{◌≡◌, ℕ, zero, suc, ◌-◌, ◌+◌, ◌≤◌, ◌<◌, List, [], ◌∷◌, ◌++◌, length, get_or, take, Option, Some, None, refl, sym, ap, ◌∙◌, append_assoc, arith}
 use Rattle.std.proofs.lemmas.List.{append-nil}
 use Rattle.op_records.specs.Reading.{Reader, ◌>>=◌, many_at}
 
@@ -30,3 +30,9 @@ is_done {A} at front count i bytes total le so_far =
     let none : count - i ≡ 0 = omega arith in
     let one : with_front front (many_at at (count - i) bytes) ≡ Some (front, bytes) = rw none (ap (λ (all : List A). Some (all, bytes)) (append-nil front)) in
     sym so_far ∙ one
+
+-- the values up to one and it
+pub take_step : {A : Type 0} (xs : List A) (k : ℕ) (x : A) → k < length xs → x ≡ get_or xs k x → take k xs ++ x ∷ [] ≡ take (k + 1) xs
+take_step [] k x lt is = absurd (omega (arith, lt))
+take_step (y ∷ xs) zero x lt is = ap (λ z. z ∷ []) is
+take_step {A} (y ∷ xs) (suc k) x lt is = ap (λ (zs : List A). y ∷ zs) (take_step xs k x (omega (arith, lt)) is) ∙ ap (λ n. take n (y ∷ xs)) (let one : suc (k + 1) ≡ suc k + 1 = omega arith in one)

@@ -4,8 +4,10 @@
 mod cursor;
 mod laws;
 mod reading;
+mod same;
 mod writing;
 
 pub use laws::{batches_are_short, fit_is_spelled, logged_is_spelled, one_batch};
-pub use reading::decode_items;
+pub use reading::{decode_items, is_spelled};
+pub use same::same_batch;
 pub use writing::encode_items;

@@ -1,12 +1,13 @@
 //! Batches from bytes.
 
-ghost use Rattle.std.specs.Prelude.{◌≡◌, ◌≤◌, List, IfOk, IfSome, IfNone};
+ghost use Rattle.std.specs.Prelude.{◌≡◌, ◌≤◌, List, IfOk, IfSome, IfNone, IsTrue, Some, length};
 ghost use Rattle.std.specs.Option.{option_map};
 ghost use Rattle.spec_model.specs.declared.log.LogItem.{LogItem};
 ghost use Rattle.op_records.specs.Reading.{Reads, number_at, many_at, some_at, below_at, args_at, few_at, span_at, right_of, right_at, mode_at, count_at, shares_at, piece_at, act_at, out_at, accept_at, body_at, is_count, place_at, item_at, counts_at, batch_at};
 ghost use Rattle.op_records.specs.Spelling.{Spells};
 
 use crate::cursor::Cursor;
+use crate::same::same_item;
 use ind_base::{Args, Cut, List as Items, NoMemory, Span, Spans};
 use run_model::Batch;
 use spec_model::{Body, Cell, Inst, LogItem, Mode, Piece, Right};
@@ -268,4 +269,48 @@ pub fn decode_items(alloc: Global, bytes: &[u8]) -> Result<Option<Batch>, NoMemo
     ensures none { IfOk result (λ read. IfNone read ((items : List LogItem) → Spells bytes.now items → ⊥)) }
 {
     read_all(alloc, bytes)
+}
+
+/// Whether the next item that is read is this one.
+fn reads_item(cursor: &mut Cursor, replicas: u32, item: &LogItem) -> bool
+    requires { replicas ≤ 8 }
+    ensures { IsTrue result → item_at replicas cursor.old ≡ Some (item.now, cursor.new) }
+{
+    match cursor.item(replicas) {
+        Some(read) => same_item(&read, item),
+        None => false,
+    }
+}
+
+/// Whether the next items that are read are these.
+fn reads_items(cursor: &mut Cursor, replicas: u32, items: &[LogItem]) -> bool
+    requires { replicas ≤ 8 }
+    ensures { IsTrue result → many_at (item_at replicas) (length items.now) cursor.old ≡ Some (items.now, cursor.new) }
+{
+    for item in items {
+        if !reads_item(cursor, replicas, item) {
+            return false;
+        }
+    }
+    true
+}
+
+fn reads_all(bytes: &[u8], items: &[LogItem]) -> bool
+    ensures { IsTrue result → batch_at bytes.now ≡ Some items.now }
+{
+    let mut cursor = Cursor::new(bytes);
+    let Some((count, replicas)) = cursor.counts() else {
+        return false;
+    };
+    if count as usize != items.len() || !reads_items(&mut cursor, replicas, items) {
+        return false;
+    }
+    cursor.is_empty()
+}
+
+/// Whether the bytes spell this batch. It takes no memory.
+pub fn is_spelled(batch: &Batch, bytes: &[u8]) -> bool
+    ensures { IsTrue result → Spells bytes.now batch.now.items }
+{
+    reads_all(bytes, batch.items.as_slice())
 }

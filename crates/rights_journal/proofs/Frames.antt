@@ -1,5 +1,5 @@
 -- Frames one behind another, and what stands behind them.
-use Rattle.std.proofs.Common.{◌≡◌, ℕ, ◌*◌, ◌^◌, ◌≤◌, ◌<◌, List, [], ◌∷◌, ◌++◌, length, get_or, take, drop, refl, sym, ◌∙◌, ap, arith, append_assoc, length-append}
+use Rattle.std.proofs.Common.{◌≡◌, ℕ, ◌*◌, ◌^◌, ◌≤◌, ◌<◌, List, [], ◌∷◌, ◌++◌, length, get_or, take, drop, refl, sym, subst, ◌∙◌, ap, arith, append_assoc, length-append}
 use Rattle.std.specs.List.{AllByRecursion}
 use Rattle.std.specs.Int.{w32, from_be_bytes}
 use Rattle.std.proofs.lemmas.List.{take_at, drop_at, flat_map_more}
@@ -8,6 +8,7 @@ use Rattle.std.proofs.lemmas.Nat.{from_be_bytes-to_be_bytes_4}
 use Rattle.rights_journal.specs.Image.{magic, sized, frames, opened, NoFrame}
 use Rattle.run_model.specs.declared.batch.Batch.{Batch}
 use Rattle.rights_journal.specs.Batches.{IsSpelled, text_of}
+use Rattle.rights_journal.specs.Reading.{known_and}
 use Rattle.rights_journal.proofs.Texts.{short, apart}
 
 -- the length says where the bytes end
@@ -80,3 +81,12 @@ found_by_length text more bytes gate count short is counted =
     let counts : count ≡ length text = counted ∙ ap (λ (l : List ℕ). from_be_bytes w32 (take 4 l)) is ∙ from_be_bytes-to_be_bytes_4 (length text) short in
     let behind : drop 4 bytes ≡ text ++ gate ∷ more = ap (λ (l : List ℕ). drop 4 l) is in
     rw (behind, counts) (take_at text (gate ∷ more) (length text) refl)
+
+-- one frame more behind those of the batches that were known
+pub known_push : (replicas same : ℕ) (known batches : List Batch) (b : Batch) (rest : List ℕ) → opened replicas (known_and same known batches) ++ 1 ∷ (sized (text_of replicas b) ++ rest) ≡ opened replicas (known_and same known (batches ++ b ∷ [])) ++ rest
+known_push replicas same known batches b rest =
+    opened_push replicas (known_and same known batches) b rest ∙ ap (λ (l : List Batch). opened replicas l ++ rest) (append_assoc (take same known) batches (b ∷ []))
+
+pub all_known_push : (replicas same : ℕ) (known batches : List Batch) (b : Batch) → AllByRecursion (IsSpelled replicas) (known_and same known batches) → IsSpelled replicas b → AllByRecursion (IsSpelled replicas) (known_and same known (batches ++ b ∷ []))
+all_known_push replicas same known batches b all here =
+    subst (AllByRecursion (IsSpelled replicas)) (append_assoc (take same known) batches (b ∷ [])) (all_push (IsSpelled replicas) (known_and same known batches) b all here)

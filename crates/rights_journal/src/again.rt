@@ -54,5 +54,5 @@ pub fn start_again<J: Keeps>(
         return Err(StartFailed { disk, why });
     }
     J::one_thing();
-    J::start(alloc, disk, replicas)
+    J::start(alloc, disk, replicas, &[])
 }

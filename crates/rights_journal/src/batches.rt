@@ -1,11 +1,11 @@
 //! The bytes of batches among so many replicas.
 
-ghost use Rattle.std.specs.Prelude.{◌≡◌, ◌≤◌, ℕ, length, true, false, IfOk, MatchOption};
+ghost use Rattle.std.specs.Prelude.{◌≡◌, ◌≤◌, ℕ, length, true, false, IfOk, IsTrue, MatchOption};
 ghost use Rattle.run_model.specs.declared.batch.Batch.{Batch as BatchOf};
 ghost use Rattle.rights_journal.specs.Batches.{FirstPast, IsSpelled, text_of};
 
 use ind_base::{List as Items, NoMemory};
-use op_records::{decode_items, encode_items};
+use op_records::{decode_items, encode_items, is_spelled};
 use run_model::Batch;
 use std::alloc::Global;
 
@@ -46,4 +46,11 @@ pub fn decode_batch(alloc: Global, replicas: u32, bytes: &[u8]) -> Result<Option
             }
         }
     }
+}
+
+/// Whether these are the bytes of this batch. It takes no memory.
+pub fn is_text(replicas: u32, batch: &Batch, bytes: &[u8]) -> bool
+    ensures { IsTrue result → IsSpelled replicas batch.now × (bytes.now ≡ text_of replicas batch.now) }
+{
+    is_spelled(batch, bytes) && is_among(replicas, batch)
 }

@@ -7,6 +7,7 @@ ghost use Rattle.ind_disk.specs.Disk.{Only, Leaves, LeavesOnly, MakesRoom};
 ghost use Rattle.ind_disk.specs.declared.disk.DiskError.TheVariants as disk_errors;
 ghost use Rattle.rights_journal.specs.declared.journal.AppendError.TheVariants as append_errors;
 ghost use Rattle.rights_journal.specs.Image.{IsFinished, IsBetween, StandsFor, IsForeign, IsWithin};
+ghost use Rattle.rights_journal.specs.Reading.{known_and};
 ghost use Rattle.rights_journal.specs.Starting.{StartsNot};
 ghost use Rattle.rights_journal.specs.declared.starting.StartWhy.TheVariants as whys;
 ghost use Rattle.rights_journal.specs.Appending.{framed, IsBeforeOrAfter};
@@ -84,10 +85,11 @@ fn frame_of(alloc: Global, replicas: u32, batch: &Batch) -> Result<Items<u8>, No
     Ok(frame)
 }
 
-/// A journal that has started, and its batches.
+/// A journal that has started, and its batches: so many of those that were known, and the others.
 #[derive(Drop)]
 pub struct Started<J> {
     pub journal: J,
+    pub same: usize,
     pub batches: Items<Batch>,
 }
 
@@ -104,13 +106,15 @@ impl<D: Disk + Drop> Journal<D> {
         alloc: Global,
         disk: D,
         replicas: u32,
+        known: &[Batch],
     ) -> Result<Started<Journal<D>>, StartFailed<D>>
         requires settled { Only (D.standing disk).bytes (D.may_leave disk) }
 
         // What it gives is what the bytes stood for, and the journal holds it.
-        ensures batches { IfOk result (λ s. IsTrue (D.standing disk).tells → StandsFor replicas s.batches (D.standing disk).bytes) }
+        ensures batches { IfOk result (λ s. IsTrue (D.standing disk).tells → StandsFor replicas (known_and s.same known.now s.batches) (D.standing disk).bytes) }
         ensures finished { IfOk result (λ s. IsTrue (D.standing disk).tells
-            → IsFinished replicas s.batches (D.standing s.journal.disk).bytes) }
+            → IsFinished replicas (known_and s.same known.now s.batches) (D.standing s.journal.disk).bytes) }
+        ensures same { IfOk result (λ s. s.same ≤ length known.now) }
         ensures kept { IfOk result (λ s. IsKept replicas (D.standing s.journal.disk) (D.may_leave s.journal.disk) s.journal.gate) }
         ensures live { IfOk result (λ s. (s.journal.live ≡ true) × (s.journal.replicas ≡ replicas)) }
 
@@ -137,7 +141,7 @@ impl<D: Disk + Drop> Journal<D> {
         ensures run_err { IfErr result (λ e. Spends (D.standing disk) (D.standing e.disk) (e.why ≡ whys.Disk)) }
     {
         let mut disk = disk;
-        match prepare::<D>(alloc, &mut disk, replicas) {
+        match prepare::<D>(alloc, &mut disk, replicas, known) {
             Ok(frames) => Ok(Started {
                 journal: Journal {
                     disk,
@@ -145,6 +149,7 @@ impl<D: Disk + Drop> Journal<D> {
                     replicas,
                     live: true,
                 },
+                same: frames.same,
                 batches: frames.batches,
             }),
             Err(why) => Err(StartFailed { disk, why }),
@@ -271,8 +276,13 @@ impl<D: Disk + Drop> Keeps for Journal<D> {
 
     ghost awake = { λ j kept. kept.awake };
 
-    fn start(alloc: Global, disk: D, replicas: u32) -> Result<Started<Journal<D>>, StartFailed<D>> {
-        Journal::<D>::start(alloc, disk, replicas)
+    fn start(
+        alloc: Global,
+        disk: D,
+        replicas: u32,
+        known: &[Batch],
+    ) -> Result<Started<Journal<D>>, StartFailed<D>> {
+        Journal::<D>::start(alloc, disk, replicas, known)
     }
 
     fn append(&mut self, alloc: Global, batch: &Batch) -> Result<(), AppendError> {

@@ -8,6 +8,7 @@ ghost use Rattle.rights_journal.specs.Image.{IsWithin};
 ghost use Rattle.op_records.specs.Spelling.{IsBatch};
 ghost use Rattle.run_model.specs.declared.batch.Batch.{Batch as BatchOf};
 ghost use Rattle.rights_journal.specs.Kept.{Spends};
+ghost use Rattle.rights_journal.specs.Reading.{known_and};
 ghost use Rattle.rights_journal.specs.Starting.{StartsNot};
 
 use crate::journal::{AppendError, StartFailed, Started};
@@ -45,17 +46,20 @@ pub trait Keeps: Sized {
     /// The longest that a fresh start makes of a disk.
     ghost fresh: { ℕ };
 
-    /// Starts a journal on a disk on which nothing is pending.
+    /// Starts a journal on a disk on which nothing is pending. Batches that are known and stand
+    /// there in the same order aren't made again.
     fn start(
         alloc: Global,
         disk: Self::D,
         replicas: u32,
+        known: &[Batch],
     ) -> Result<Started<Self>, StartFailed<Self::D>>
         requires settled { Only (Self.D.standing disk).bytes (Self.D.may_leave disk) }
 
         // What it gives is what the bytes stood for, and the journal holds it.
-        ensures batches { IfOk result (λ s. IsTrue (Self.D.standing disk).tells → stands_for replicas s.batches (Self.D.standing disk).bytes) }
-        ensures finished { IfOk result (λ s. IsTrue (Self.D.standing disk).tells → finished replicas s.batches (Self.D.standing (Self.disk_of s.journal)).bytes) }
+        ensures batches { IfOk result (λ s. IsTrue (Self.D.standing disk).tells → stands_for replicas (known_and s.same known.now s.batches) (Self.D.standing disk).bytes) }
+        ensures finished { IfOk result (λ s. IsTrue (Self.D.standing disk).tells → finished replicas (known_and s.same known.now s.batches) (Self.D.standing (Self.disk_of s.journal)).bytes) }
+        ensures same { IfOk result (λ s. s.same ≤ length known.now) }
         ensures kept { IfOk result (λ s. is_kept s.journal) }
         ensures live { IfOk result (λ s. (Self.live s.journal ≡ true) × (Self.replicas_of s.journal ≡ replicas)) }
 

@@ -7,7 +7,7 @@ ghost use Rattle.run_model.specs.declared.batch.Batch.{Batch as BatchOf};
 ghost use Rattle.rights_journal.specs.Kept.{Spends};
 ghost use Rattle.rights_journal.specs.Image.{IsUnfinished, StandsFor, IsForeign};
 ghost use Rattle.rights_journal.specs.Afresh.{IsFresh, IsNew};
-ghost use Rattle.rights_journal.specs.Reading.{IsRead};
+ghost use Rattle.rights_journal.specs.Reading.{IsRead, known_and};
 ghost use Rattle.rights_journal.specs.Starting.{StartsNot};
 ghost use Rattle.rights_journal.specs.declared.starting.StartWhy.TheVariants as whys;
 ghost use Rattle.ind_disk.specs.Disk.{IsRun};
@@ -16,6 +16,7 @@ use crate::afresh::make_afresh;
 use crate::reading::{Frames, Refusal, frames_of, has_header, is_unfinished};
 use ind_base::List as Items;
 use ind_disk::{Disk, DiskError};
+use run_model::Batch;
 use std::alloc::Global;
 
 /// Why a journal did not start.
@@ -76,16 +77,22 @@ fn begin_afresh<D: Disk>(disk: &mut D, bytes: &[u8]) -> Result<(), StartWhy>
 }
 
 /// Reads bytes that aren't an unfinished journal.
-fn read_image(alloc: Global, replicas: u32, bytes: &[u8]) -> Result<Frames, StartWhy>
+fn read_image(
+    alloc: Global,
+    replicas: u32,
+    known: &[Batch],
+    bytes: &[u8],
+) -> Result<Frames, StartWhy>
     requires { IsUnfinished bytes.now → ⊥ }
-    ensures read { IfOk result (λ f. IsRead replicas f.batches f.gate bytes.now) }
+    ensures read { IfOk result (λ f. IsRead replicas (known_and f.same known.now f.batches) f.gate bytes.now) }
     ensures refused { IfErr result (λ e. StartsNot (λ at. IsForeign replicas at bytes.now) e) }
+    ensures within { IfOk result (λ f. f.same ≤ length known.now) }
     ensures never { IsErrOf result whys.Disk → ⊥ }
 {
     if !has_header(bytes) {
         return Err(StartWhy::Foreign { at: 0 });
     }
-    match frames_of(alloc, replicas, bytes) {
+    match frames_of(alloc, replicas, known, bytes) {
         Ok(frames) => Ok(frames),
         Err(Refusal::Memory) => Err(StartWhy::Memory),
         Err(Refusal::Foreign(at)) => Err(StartWhy::Foreign { at }),
@@ -97,6 +104,7 @@ pub fn interpret<D: Disk>(
     alloc: Global,
     disk: &mut D,
     replicas: u32,
+    known: &[Batch],
     bytes: &[u8],
 ) -> Result<Frames, StartWhy>
     requires same { IsTrue (D.standing disk.old).tells → (D.standing disk.old).bytes ≡ bytes.now }
@@ -104,9 +112,10 @@ pub fn interpret<D: Disk>(
     requires settled { Only (D.standing disk.old).bytes (D.may_leave disk.old) }
     requires room { 6 ≤ (D.standing disk.old).spare }
 
-    ensures batches { IfOk result (λ f. StandsFor replicas f.batches bytes.now) }
+    ensures batches { IfOk result (λ f. StandsFor replicas (known_and f.same known.now f.batches) bytes.now) }
     ensures refused { IfErr result (λ e. StartsNot (λ at. IsForeign replicas at bytes.now) e) }
-    ensures read { IfOk result (λ f. IsTrue (D.standing disk.old).tells → IsRead replicas f.batches f.gate (D.standing disk.new).bytes) }
+    ensures read { IfOk result (λ f. IsTrue (D.standing disk.old).tells → IsRead replicas (known_and f.same known.now f.batches) f.gate (D.standing disk.new).bytes) }
+    ensures within { IfOk result (λ f. f.same ≤ length known.now) }
     ensures inside { IfOk result (λ f. f.gate < (D.standing disk.new).size) }
     ensures durable { OnOk result (Only (D.standing disk.new).bytes (D.may_leave disk.new)) }
     ensures run { IsRun 6 (D.standing disk.old) (D.standing disk.new) (IsErrOf result whys.Disk) }
@@ -121,20 +130,27 @@ pub fn interpret<D: Disk>(
     if is_unfinished(bytes) {
         begin_afresh(disk, bytes)?;
         return Ok(Frames {
+            same: 0,
             batches: Items::new(alloc),
             gate: 9,
         });
     }
-    read_image(alloc, replicas, bytes)
+    read_image(alloc, replicas, known, bytes)
 }
 
 /// Reads a journal, or makes it afresh where the bytes are an unfinished one.
-pub fn prepare<D: Disk>(alloc: Global, disk: &mut D, replicas: u32) -> Result<Frames, StartWhy>
+pub fn prepare<D: Disk>(
+    alloc: Global,
+    disk: &mut D,
+    replicas: u32,
+    known: &[Batch],
+) -> Result<Frames, StartWhy>
     requires settled { Only (D.standing disk.old).bytes (D.may_leave disk.old) }
 
-    ensures batches { IfOk result (λ f. IsTrue (D.standing disk.old).tells → StandsFor replicas f.batches (D.standing disk.old).bytes) }
+    ensures batches { IfOk result (λ f. IsTrue (D.standing disk.old).tells → StandsFor replicas (known_and f.same known.now f.batches) (D.standing disk.old).bytes) }
     ensures refused { IfErr result (λ e. StartsNot (λ at. IsTrue (D.standing disk.old).tells → IsForeign replicas at (D.standing disk.old).bytes) e) }
-    ensures read { IfOk result (λ f. IsTrue (D.standing disk.old).tells → IsRead replicas f.batches f.gate (D.standing disk.new).bytes) }
+    ensures read { IfOk result (λ f. IsTrue (D.standing disk.old).tells → IsRead replicas (known_and f.same known.now f.batches) f.gate (D.standing disk.new).bytes) }
+    ensures within { IfOk result (λ f. f.same ≤ length known.now) }
     ensures inside { IfOk result (λ f. f.gate < (D.standing disk.new).size) }
     ensures durable { OnOk result (Only (D.standing disk.new).bytes (D.may_leave disk.new)) }
     ensures awake { OnOk result (IsTrue (D.standing disk.old).tells_stops → (D.standing disk.new).is_stopped ≡ false) }
@@ -153,5 +169,5 @@ pub fn prepare<D: Disk>(alloc: Global, disk: &mut D, replicas: u32) -> Result<Fr
         Err(DiskError::Failed) => return Err(StartWhy::Disk),
         Err(DiskError::Memory) => return Err(StartWhy::Memory),
     };
-    interpret::<D>(alloc, disk, replicas, bytes.as_slice())
+    interpret::<D>(alloc, disk, replicas, known, bytes.as_slice())
 }

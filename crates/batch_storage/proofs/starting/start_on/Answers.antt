@@ -1,6 +1,7 @@
 use Rattle.std.proofs.Common.{◌+◌, ◌*◌, List, length, subst, arith}
 use Rattle.std.specs.Prelude.{Bool, IsTrue}
 use Rattle.run_model.specs.declared.batch.Batch.{Batch}
+use Rattle.rights_journal.specs.Reading.{known_and}
 use Rattle.batch_storage.specs.Found.{IsFound}
 use Rattle.batch_storage.specs.Held.{IsStored, IsLeft, IsUp, IsDown}
 use Rattle.batch_storage.proofs.Begun.{one_of, still_left, stored, found_keeps, if_broken, on_err}
@@ -11,15 +12,17 @@ returns-in-Ok-clause-found g c =
     let n = c.args.replicas in
     let kept = c.args.kept.now in
     let pending = c.args.pending.now in
-    let started = c.in-Ok.started.batches in
+    let same = c.in-Ok.started.same in
+    let others : List Batch = c.in-Ok.started.batches in
+    let started = known_and same kept others in
     let journal = c.in-Ok.started.journal in
     let old = g.J.D.Disk.standing c.args.disk in
     let new = g.J.D.Disk.standing (g.J.Keeps.disk_of journal) in
     found_keeps (g.J.Keeps.disk_of) journal
     (λ batches j. IsUp (g.J.Keeps.live j) (g.J.Keeps.is_kept j) (g.J.Keeps.replicas_of j) n (g.J.D.Disk.standing (g.J.Keeps.disk_of j)) (IsStored (g.J.Keeps.finished n) batches))
     (λ batches d next. IsDown (g.J.D.Disk.standing d) (g.J.D.Disk.may_leave d) (IsLeft (g.J.Keeps.stands_for n) batches next))
-    c.hold.result started kept pending c.found_in-found.result c.hold.ensures
-    (subst (λ (l : List Batch). IsFound l kept pending c.found_in-found.result) c.as_slice.ensures.value c.found_in-found.ensures)
+    c.hold.result started kept pending c.found_behind-found.result c.hold.ensures
+    (subst (λ (l : List Batch). IsFound (known_and same kept l) kept pending c.found_behind-found.result) c.as_slice.ensures.value c.found_behind-found.ensures)
     (λ one. record {
       alive = c.in-Ok.ensures.live.0;
       kept = c.in-Ok.ensures.kept;

@@ -1,7 +1,7 @@
 use Rattle.std.proofs.Common.{inl, inr, ◌≤◌, ℕ, List, length, refl, sym, ap, subst, arith, rules}
 use Rattle.std.specs.Prelude.{IsErrOf}
 use Rattle.rights_journal.specs.Image.{StandsFor, IsUnfinished}
-use Rattle.rights_journal.specs.Reading.{IsRead}
+use Rattle.rights_journal.specs.Reading.{IsRead, known_and}
 use Rattle.rights_journal.specs.declared.starting.StartWhy.TheVariants as whys
 use Rattle.rights_journal.proofs.Moments.{stays}
 use Rattle.rights_journal.proofs.Fresh.{unfinished_fresh}
@@ -47,7 +47,7 @@ returns-clause-batches g c = if_ok c.read_image.result (λ f read. inr read.0) c
 
 pub returns-clause-read : goal.returns-clause-read
 returns-clause-read g c = if_ok c.read_image.result
-    (λ f read tells. subst (λ (b : List ℕ). IsRead c.args.replicas f.batches f.gate b) (sym (c.requires.same tells)) read) c.read_image.ensures.read
+    (λ f read tells. subst (λ (b : List ℕ). IsRead c.args.replicas (known_and f.same c.args.known.now f.batches) f.gate b) (sym (c.requires.same tells)) read) c.read_image.ensures.read
 
 pub returns-clause-any_moment : goal.returns-clause-any_moment
 returns-clause-any_moment g c = λ tells batches stands.

@@ -1,5 +1,5 @@
 use Rattle.std.proofs.Common.{◌≡◌, take}
-use Rattle.batch_storage.proofs.same.same_spans.Given as goal
+use Rattle.op_records.proofs.same.same_spans.Given as goal
 
 abbrev pub invariant-loop-at : goal.invariant-loop-at
 invariant-loop-at l = take l.at l.a ≡ take l.at l.b
