@@ -64,12 +64,11 @@ impl<'a> Cursor<'a> {
     pub fn word(&mut self) -> Option<u32>
         ensures { Reads (number_at 4) self.old self.new result }
     {
-        if self.rest.len() < 4 {
+        let [a, b, c, d, rest @ ..] = self.rest else {
             return None;
-        }
-        let number = BigEndian::read_u32(self.rest);
-        self.rest = &self.rest[4..];
-        Some(number)
+        };
+        self.rest = rest;
+        Some(u32::from_be_bytes([*a, *b, *c, *d]))
     }
 
     /// A number in eight bytes.

@@ -3,11 +3,11 @@
 ghost use Rattle.std.specs.Prelude.{◌≡◌, ◌≤◌, List, IfOk, IfSome, IfNone, IsTrue, Some, length};
 ghost use Rattle.std.specs.Option.{option_map};
 ghost use Rattle.spec_model.specs.declared.log.LogItem.{LogItem};
-ghost use Rattle.op_records.specs.Reading.{Reads, number_at, many_at, some_at, below_at, args_at, few_at, span_at, right_of, right_at, mode_at, count_at, shares_at, piece_at, act_at, out_at, accept_at, body_at, is_count, place_at, item_at, counts_at, batch_at};
+ghost use Rattle.op_records.specs.Reading.{Reads, number_at, many_at, some_at, below_at, args_at, few_at, span_at, right_of, right_at, mode_at, count_at, shares_at, piece_at, act_at, out_at, accept_at, body_at, both_at, is_count, place_at, item_at, counts_at, batch_at};
 ghost use Rattle.op_records.specs.Spelling.{Spells};
 
 use crate::cursor::Cursor;
-use crate::same::same_item;
+use crate::same::same_body;
 use ind_base::{Args, Cut, List as Items, NoMemory, Span, Spans};
 use run_model::Batch;
 use spec_model::{Body, Cell, Inst, LogItem, Mode, Piece, Right};
@@ -271,24 +271,67 @@ pub fn decode_items(alloc: Global, bytes: &[u8]) -> Result<Option<Batch>, NoMemo
     read_all(alloc, bytes)
 }
 
-/// Whether the next item that is read is this one.
-fn reads_item(cursor: &mut Cursor, replicas: u32, item: &LogItem) -> bool
-    requires { replicas ≤ 8 }
-    ensures { IsTrue result → item_at replicas cursor.old ≡ Some (item.now, cursor.new) }
-{
-    match cursor.item(replicas) {
-        Some(read) => same_item(&read, item),
-        None => false,
+impl<'a> Cursor<'a> {
+    /// Whether these counts are read next.
+    fn has_counts(&mut self, counts: &[u32]) -> bool
+        ensures { IsTrue result → many_at (number_at 4) (length counts.now) self.old ≡ Some (counts.now, self.new) }
+    {
+        for count in counts {
+            match self.word() {
+                Some(read) => {
+                    if read != *count {
+                        return false;
+                    }
+                }
+                None => return false,
+            }
+        }
+        true
+    }
+
+    /// Whether this origin and index are read next.
+    fn has_number(&mut self, replicas: u32, item: &LogItem) -> bool
+        ensures { IsTrue result → both_at (below_at replicas) (number_at 4) self.old ≡ Some ((item.now.origin, item.now.index), self.new) }
+    {
+        match self.below(replicas) {
+            Some(origin) => match self.word() {
+                Some(index) => origin == item.origin && index == item.index,
+                None => false,
+            },
+            None => false,
+        }
+    }
+
+    /// Whether the place of this item is read next.
+    fn has_place(&mut self, replicas: u32, item: &LogItem) -> bool
+        ensures { IsTrue result → place_at replicas self.old ≡ Some (((item.now.origin, item.now.index), item.now.deps), self.new) }
+    {
+        item.deps.len() == replicas as usize
+            && is_own(item.index, item.deps.get(item.origin as usize))
+            && self.has_number(replicas, item)
+            && self.has_counts(item.deps.as_slice())
+    }
+
+    /// Whether this item of one of so many replicas is read next.
+    fn has_item(&mut self, replicas: u32, item: &LogItem) -> bool
+        ensures { IsTrue result → item_at replicas self.old ≡ Some (item.now, self.new) }
+    {
+        if !self.has_place(replicas, item) {
+            return false;
+        }
+        match self.body(replicas) {
+            Some(body) => same_body(&body, &item.body),
+            None => false,
+        }
     }
 }
 
 /// Whether the next items that are read are these.
 fn reads_items(cursor: &mut Cursor, replicas: u32, items: &[LogItem]) -> bool
-    requires { replicas ≤ 8 }
     ensures { IsTrue result → many_at (item_at replicas) (length items.now) cursor.old ≡ Some (items.now, cursor.new) }
 {
     for item in items {
-        if !reads_item(cursor, replicas, item) {
+        if !cursor.has_item(replicas, item) {
             return false;
         }
     }

@@ -44,7 +44,7 @@ fn same_inst(a: &Inst, b: &Inst) -> bool
 }
 
 /// Whether two items do the same.
-fn same_body(a: &Body, b: &Body) -> bool
+pub(crate) fn same_body(a: &Body, b: &Body) -> bool
     ensures { IsTrue result ↔ (a.now ≡ b.now) }
 {
     match (a, b) {
@@ -86,7 +86,7 @@ fn same_past(a: &[u32], b: &[u32]) -> bool
 }
 
 /// Whether two items are the same.
-pub(crate) fn same_item(a: &LogItem, b: &LogItem) -> bool
+fn same_item(a: &LogItem, b: &LogItem) -> bool
     ensures { IsTrue result ↔ (a.now ≡ b.now) }
 {
     a.origin == b.origin

@@ -10,7 +10,7 @@ loop-item-preserved c =
     let items : List LogItem = c.args.items.now in
     let k = c.loop-item.item-index in
     let x : LogItem = c.item-item.result in
-    let after = c.reads_item.new.cursor in
+    let after = c.has_item.new.self in
     let total = many_at (item_at c.args.replicas) (length items) c.args.cursor.now in
     let read : item_at c.args.replicas c.loop-item.cursor ≡ Some (x, after) = search rules in
     subst (λ (front : List LogItem). with_front front (many_at (item_at c.args.replicas) (length items - (k + 1)) after) ≡ total) (take_step items k x c.loop-item-test.true c.item-item.is)
