@@ -1,16 +1,16 @@
 -- What becomes of entries where one is changed, or one is added.
-use Rattle.std.proofs.Common.{◌≡◌, inl, inr, ℕ, zero, suc, Bool, true, false, List, [], ◌∷◌, length, refl, sym, ap, subst, ◌∙◌}
-use Rattle.std.specs.Prelude.{Option, Some, None, IsSome, is_some, ◌&&◌, Result, Ok, Err, OnOk, OnErr}
+use Rattle.std.proofs.Common.{◌≡◌, inl, inr, ℕ, zero, suc, Bool, true, false, List, [], ◌∷◌, length, map, refl, sym, ap, subst, ◌∙◌}
+use Rattle.std.specs.Prelude.{Option, Some, None, IsSome, is_some, slice_get, ◌&&◌, Result, Ok, Err, OnOk, OnErr}
 use Rattle.std.specs.Map.{lookup, set_value}
 use Rattle.std.proofs.lemmas.Option.{same_Some}
 use Rattle.std.proofs.lemmas.Bool.{and_parts, cases_Bool, cond-true, cond-false}
-use Rattle.indexmap.specs.IndexMap.{insert_entry}
+use Rattle.indexmap.specs.IndexMap.{insert_entry, set_value_at}
 use Rattle.spec_model.specs.declared.right.Right.{Right}
 use Rattle.run_model.specs.Rights.{same_right}
 use Rattle.rights_table.specs.declared.holding.Holding.{Holding}
 use Rattle.rights_table.specs.Entries.{are_of_kind}
 use Rattle.rights_table.specs.Holdings.{is_of}
-use Rattle.rights_table.specs.Same.{same_is}
+use Rattle.rights_table.specs.Same.{same_is, same_refl}
 
 pub no_some : (h : Holding) → ◌≡◌ {A = Option Holding} (Some h) None → ⊥
 no_some h e = absurd cc
@@ -83,3 +83,22 @@ kinds_more all (e ∷ es) r h kinds one =
 pub kinds_made : {X E : Type 0} (made : Result X E) (all : ℕ) (es new : List (Right × Holding)) (r : Right) (h : Holding) → OnOk made (new ≡ insert_entry same_right es r h) → OnErr made (new ≡ es) → are_of_kind all es ≡ true → is_of all r h ≡ true → are_of_kind all new ≡ true
 kinds_made (Ok x) all es new r h ok err kinds one = ap (are_of_kind all) ok ∙ kinds_more all es r h kinds one
 kinds_made (Err e) all es new r h ok err kinds one = ap (are_of_kind all) err ∙ kinds
+
+-- ---- the first one
+
+pub first_is : (es : List (Right × Holding)) (r : Right) (h : Holding) → slice_get es 0 ≡ Some (r, h) → lookup (same_right r) es ≡ Some h
+first_is [] r h at = absurd cc
+first_is (e ∷ es) r h at =
+    subst (λ (x : Right × Holding). lookup (same_right r) (x ∷ es) ≡ Some h) (sym (same_Some e (r, h) at)) (cond-true (same_right r r) (Some h) (lookup (same_right r) es) (same_refl r))
+
+pub first_value : (es : List (Right × Holding)) (r : Right) (h : Holding) → slice_get es 0 ≡ Some (r, h) → slice_get (map (λ (e : Right × Holding). e.1) es) 0 ≡ Some h
+first_value [] r h at = absurd cc
+first_value (e ∷ es) r h at = ap (λ (x : Right × Holding). Some x.1) (same_Some e (r, h) at)
+
+-- with another holding of its kind
+pub kinds_first : (all : ℕ) (es : List (Right × Holding)) (r : Right) (before after : Holding) → slice_get es 0 ≡ Some (r, before) → are_of_kind all es ≡ true → is_of all r after ≡ true → are_of_kind all (set_value_at es 0 after) ≡ true
+kinds_first all [] r before after at kinds one = absurd cc
+kinds_first all (e ∷ es) r before after at kinds one =
+    let parts = and_parts (is_of all e.0 e.1) (are_of_kind all es) kinds in
+    let it : r ≡ e.0 = sym (ap (λ (x : Right × Holding). x.0) (same_Some e (r, before) at)) in
+    both (is_of all e.0 after) (are_of_kind all es) (subst (λ (q : Right). is_of all q after ≡ true) it one) parts.1

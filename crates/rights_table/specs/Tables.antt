@@ -1,5 +1,5 @@
 -- A table of rights: what a replica holds of each after the items of its own log.
-use Rattle.std.specs.Prelude.{◌≡◌, true, ℕ, ◌+◌, ◌≤◌, ◌&&◌, List, Bool, if◌then◌else◌, Option, Some, None, sum_by, nat_lt}
+use Rattle.std.specs.Prelude.{◌≡◌, true, ℕ, ◌+◌, ◌≤◌, ◌&&◌, List, Bool, if◌then◌else◌, Option, Some, None, slice_get, sum_by, nat_lt}
 use Rattle.std.specs.Option.{option_map_or}
 use Rattle.ind_base.specs.declared.span.Span.{Span}
 use Rattle.spec_model.specs.declared.plan.Setup.{Setup}
@@ -74,6 +74,10 @@ pub record IsTable (setup : Setup) (logs : Logs) (me : ℕ) (own : List LogItem)
 -- the right has an entry, for which there is room
 abbrev pub IsEntered : Table → Right → Type 0
 IsEntered t r = (h : Holding) × (entered t r ≡ Some h)
+
+-- and it is the first of all
+abbrev pub IsFirst : Table → Right → Type 0
+IsFirst t r = (h : Holding) × (slice_get t.entries.entries 0 ≡ Some (r, h))
 
 -- both tell the same of all rights
 pub record TellTheSame (setup : Setup) (old new : Table) : Type 0 where

@@ -1,6 +1,6 @@
 //! A table of rights, with an entry for each right that was touched.
 
-ghost use Rattle.std.specs.Prelude.{◌≡◌, ◌<◌, [], true, Bool, None, Some, OnOk, is_ok};
+ghost use Rattle.std.specs.Prelude.{◌≡◌, ◌<◌, [], true, Bool, None, Some, IsTrue, OnOk, is_ok};
 ghost use Rattle.std.specs.Option.{option_copied};
 ghost use Rattle.rights_table.specs.Entries.{are_of_kind};
 
@@ -31,7 +31,7 @@ impl Table {
     ghost use Rattle.rights_table.specs.declared.holding.Holding.{Holding as HoldingOf};
     ghost use Rattle.rights_table.specs.Holdings.{is_of};
     ghost use Rattle.rights_table.specs.Steps as steps;
-    ghost use Rattle.rights_table.specs.Tables.{Becomes, Enters, IsEntered, IsTable, KeepsEntries, TellTheSame, entered, replicas_of};
+    ghost use Rattle.rights_table.specs.Tables.{Becomes, Enters, IsEntered, IsFirst, IsTable, KeepsEntries, TellTheSame, entered, replicas_of};
 
     /// The table of a replica that has logged nothing. It takes no memory.
     pub fn begin(alloc: Global, setup: &Setup, me: u32) -> Table
@@ -79,8 +79,30 @@ impl Table {
         Ok(())
     }
 
-    /// Takes a step with the holding of a right.
-    pub(crate) fn change(&mut self, right: &Right, step: &Step)
+    /// Whether the first entry is that of a right.
+    fn is_first(&self, right: &Right) -> bool
+        ensures { IsTrue result → IsFirst self.now right.now }
+    {
+        match self.entries.first() {
+            Some((key, _)) => *key == Key::of(right),
+            None => false,
+        }
+    }
+
+    /// Takes a step with the holding of the right that has the first entry.
+    fn change_first(&mut self, right: &Right, step: &Step)
+        requires first { IsFirst self.old right.now }
+        requires may { (h : HoldingOf) → entered self.old right.now ≡ Some h → steps.MayStep h step.now }
+        ensures { (before after : HoldingOf) × Becomes right.now before after self.old self.new × steps.IsStep before step.now after }
+    {
+        match self.entries.first_mut() {
+            Some(holding) => holding.step(step),
+            None => unreachable!(),
+        }
+    }
+
+    /// Takes a step with the holding of a right that is found by its hash.
+    fn change_found(&mut self, right: &Right, step: &Step)
         requires entered { IsEntered self.old right.now }
         requires may { (h : HoldingOf) → entered self.old right.now ≡ Some h → steps.MayStep h step.now }
         ensures { (before after : HoldingOf) × Becomes right.now before after self.old self.new × steps.IsStep before step.now after }
@@ -88,6 +110,20 @@ impl Table {
         match self.entries.get_mut(&Key::of(right)) {
             Some(holding) => holding.step(step),
             None => unreachable!(),
+        }
+    }
+
+    /// Takes a step with the holding of a right.
+    pub(crate) fn change(&mut self, right: &Right, step: &Step)
+        requires entered { IsEntered self.old right.now }
+        requires may { (h : HoldingOf) → entered self.old right.now ≡ Some h → steps.MayStep h step.now }
+        ensures { (before after : HoldingOf) × Becomes right.now before after self.old self.new × steps.IsStep before step.now after }
+    {
+        // Where few rights are touched it often is the first one, for which nothing is hashed.
+        if self.is_first(right) {
+            self.change_first(right, step);
+        } else {
+            self.change_found(right, step);
         }
     }
 }

@@ -5,7 +5,7 @@ use Rattle.run_model.specs.Rights.{same_right}
 use Rattle.rights_table.specs.Entries.{are_of_kind}
 use Rattle.rights_table.specs.Tables.{entered}
 use Rattle.rights_table.proofs.Entries.{kind_entered, kinds_set, no_some, some_is}
-use Rattle.rights_table.proofs.table.Table.change.Goals as goal
+use Rattle.rights_table.proofs.table.Table.change_found.Goals as goal
 
 pub step-requires : goal.step-requires
 step-requires c = c.requires.may c.in-Some.holding.now (ap (entered c.args.self.now) (sym c.of.ensures) ∙ sym c.in-Some.ensures.value)
