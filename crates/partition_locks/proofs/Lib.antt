@@ -1,6 +1,7 @@
 mod Rows
 mod Blocks
 mod Apart
+mod Halves
 pub mod Queries
 mod Counts
 mod Spliced

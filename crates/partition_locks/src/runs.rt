@@ -7,16 +7,23 @@ ghost use Rattle.partition_locks.specs.Edits.{IsPlace};
 
 use ind_base::{List, NoMemory, Span};
 
-/// The place of the first run that ends at the point or after it.
+/// The place of the first run that ends at the point or after it. A set that was parted often has many
+/// runs, so the place is found by halving.
 pub(crate) fn place_of(runs: &[Span], x: u32) -> usize
+    requires { AreApart 0 runs.now }
     ensures { IsPlace runs.now x result }
 {
-    for (at, run) in runs.iter().enumerate() {
-        if run.hi >= x {
-            return at;
+    let mut low = 0;
+    let mut high = runs.len();
+    'halving: while low < high {
+        let middle = low + (high - low) / 2;
+        if runs[middle].hi < x {
+            low = middle + 1;
+        } else {
+            high = middle;
         }
     }
-    runs.len()
+    low
 }
 
 /// The lowest point of the span that lies in no run.

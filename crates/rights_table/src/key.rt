@@ -1,15 +1,18 @@
 //! A right as the key of a map.
 
 ghost use Rattle.std.specs.Prelude.{◌≡◌};
-ghost use Rattle.std.specs.List.{fold};
 ghost use Rattle.std.specs.Cmp.{partial_equiv_from_equiv};
 ghost use Rattle.run_model.specs.Rights.{same_right};
-ghost use Rattle.rights_table.specs.Keys.{fed_of, named, same_equiv, same_fed};
+ghost use Rattle.rights_table.specs.Keys as keys;
+ghost use Rattle.rights_table.specs.Keys.{fed_of, same_equiv, same_fed};
 
 use ind_base::Args;
 use spec_model::Right;
 use std::hash::{Hash, Hasher};
 use std::marker::Model;
+
+/// By which what was mixed is multiplied before the next number is added: odd, so that nothing is lost.
+const SPREAD: u64 = 0x9e37_79b9_7f4a_7c15;
 
 /// A right, to be found by a hash of its numbers.
 #[derive(Clone, Copy)]
@@ -50,13 +53,39 @@ impl Eq for Key {
     ghost laws = { same_equiv };
 }
 
-/// Feeds a hasher which kind of right it is, its number and its arguments.
-fn feed<H: Hasher>(kind: u8, number: u32, args: &Args, state: &mut H)
-    ensures { state.new ≡ fold H.write state.old (named kind number args.now) }
+/// One number more, mixed in.
+fn mixed(so_far: u64, number: u32) -> u64
+    ensures { result ≡ keys.mixed so_far number }
 {
-    state.write_u8(kind);
-    state.write_u32(number);
-    args.as_slice().hash(state);
+    so_far.wrapping_mul(SPREAD).wrapping_add(u64::from(number))
+}
+
+/// Which kind of right it is, its number and its arguments, mixed to one number.
+fn named(kind: u32, number: u32, args: &Args) -> u64
+    ensures { result ≡ keys.named kind number args.now }
+{
+    let mut all = mixed(u64::from(kind), number);
+    for arg in args.as_slice() {
+        all = mixed(all, *arg);
+    }
+    all
+}
+
+/// All that a right is, mixed to one number.
+fn number_of(right: &Right) -> u64
+    ensures { result ≡ keys.number_of right.now }
+{
+    match right {
+        Right::Low(cell) => named(0, cell.num, &cell.args),
+        Right::High(cell) => named(1, cell.num, &cell.args),
+        Right::Lock { lock, key } => named(2, *lock, key),
+        Right::Entry {
+            clause,
+            args,
+            literal,
+        } => mixed(named(3, *clause, args), *literal),
+        Right::Part { part, key } => named(4, *part, key),
+    }
 }
 
 impl Hash for Key {
@@ -65,19 +94,7 @@ impl Hash for Key {
     ghost respects_eq = { same_fed };
 
     fn hash<H: Hasher>(&self, state: &mut H) {
-        match self.right {
-            Right::Low(cell) => feed(0, cell.num, &cell.args, state),
-            Right::High(cell) => feed(1, cell.num, &cell.args, state),
-            Right::Lock { lock, key } => feed(2, lock, &key, state),
-            Right::Entry {
-                clause,
-                args,
-                literal,
-            } => {
-                feed(3, clause, &args, state);
-                state.write_u32(literal);
-            }
-            Right::Part { part, key } => feed(4, part, &key, state),
-        }
+        // One write of a number that is made of all the others takes less than a write for each.
+        state.write_u64(number_of(&self.right));
     }
 }
