@@ -17,6 +17,7 @@ pub mod Acts
 pub mod Pruned
 pub mod Searched
 pub mod Standing
+pub mod Stays
 pub mod Blocked
 pub mod Filled
 pub mod Fitted

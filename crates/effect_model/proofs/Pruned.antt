@@ -152,7 +152,7 @@ all_true spec inst s xs (l ∷ ls) e =
 clause_misses : (spec : Spec) (inst : Inst) (s : Truths) (c : Clause) (front xs : List ℕ) → clause_may inst (op_at spec inst.op).lines front c ≡ false → breaks_at spec inst s c (front ++ xs) ≡ false
 clause_misses spec inst s c front xs e = all_true spec inst s (front ++ xs) (literals c) (none_falsified spec inst c front xs e)
 
-find_none : (p : List ℕ → Bool) (f : List ℕ → List ℕ) (ts : List (List ℕ)) → ((xs : List ℕ) → p (f xs) ≡ false) → find p (map f ts) ≡ None
+pub find_none : (p : List ℕ → Bool) (f : List ℕ → List ℕ) (ts : List (List ℕ)) → ((xs : List ℕ) → p (f xs) ≡ false) → find p (map f ts) ≡ None
 find_none p f [] none = refl
 find_none p f (t ∷ ts) none = rw (none t) (find_none p f ts none)
 

@@ -1,6 +1,6 @@
 -- Whether an effect may make a literal of a clause false where its first variables have some elements.
-use Rattle.std.specs.Prelude.{ℕ, Bool, true, false, not, ◌&&◌, ◌||◌, ◌==◌, List, [], ◌∷◌, ◌++◌, map, slice_get}
-use Rattle.std.specs.List.{list_any, AllByRecursion}
+use Rattle.std.specs.Prelude.{ℕ, Bool, true, false, not, ◌&&◌, ◌||◌, ◌==◌, List, [], ◌∷◌, ◌++◌, map, nat_lt, slice_get}
+use Rattle.std.specs.List.{list_all, list_any, AllByRecursion}
 use Rattle.std.specs.Option.{option_map_or}
 use Rattle.spec_model.specs.declared.clause.Clause.{Clause}
 use Rattle.spec_model.specs.declared.clause.Literal.{Literal}
@@ -37,6 +37,15 @@ literal_may inst lines front sign (Equal l r) = false
 
 abbrev pub clause_may : Inst → List Line → List ℕ → Clause → Bool
 clause_may inst lines front c = list_any (literal_may inst lines front false) c.premise || list_any (literal_may inst lines front true) c.conclusion
+
+-- all these variables are among the first ones, of which there are so many
+abbrev pub are_given : ℕ → List ℕ → Bool
+are_given count vars = list_all (λ v. nat_lt v count) vars
+
+-- so are those of a literal that is an atom
+abbrev pub literal_given : ℕ → Literal → Bool
+literal_given count (Atom p vars) = are_given count vars
+literal_given count (Equal l r) = false
 
 -- a literal's atom at these elements is one of the universe
 abbrev pub LiteralStands : Spec → List ℕ → Literal → Type 0

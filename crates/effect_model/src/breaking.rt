@@ -1,13 +1,14 @@
 //! Which clause the effect of an instance would make false.
 
-ghost use Rattle.std.specs.Prelude.{◌≡◌, ◌≤◌, ◌+◌, ◌++◌, length, map, get_or, IfOk};
+ghost use Rattle.std.specs.Prelude.{◌≡◌, ◌<◌, ◌≤◌, ◌+◌, ◌++◌, ◌∷◌, [], length, map, get_or, true, false, List as Numbers, ℕ, IfOk, IsTrue};
 ghost use Rattle.std.specs.List.{list_any, find, AllByRecursion};
-ghost use Rattle.spec_model.specs.Fits.{IsWellFormed, InstFits, ClauseFits};
+ghost use Rattle.spec_model.specs.Fits.{IsWellFormed, InstFits, ClauseFits, SortFits};
 ghost use Rattle.spec_model.specs.Truths as truths;
 ghost use Rattle.spec_model.specs.Universe as universe;
 ghost use Rattle.spec_model.specs.Breaks.{broken_by};
 ghost use Rattle.effect_model.specs.Laying.{IsLaid, falsifies, first_broken, sets, truths_after};
 ghost use Rattle.effect_model.specs.Places.{KnowsAll};
+ghost use Rattle.effect_model.specs.Pruning as pruning;
 ghost use Rattle.effect_model.specs.Pruning.{ClauseStands, LiteralStands, StandsBehind, tuples_behind};
 
 use crate::layout::size_of;
@@ -125,6 +126,84 @@ fn breaks_here<T: Truth>(laid: &Laid<'_, T>, clause: &Clause, xs: &[u32]) -> boo
     !clause_true(laid, clause, xs) && clause_set(laid, clause, xs)
 }
 
+/// Whether all these variables are among the first ones, of which there are so many.
+fn are_given(count: usize, vars: &[u32]) -> bool
+    ensures { result ≡ pruning.are_given count vars.now }
+{
+    vars.iter().all(|var| (*var as usize) < count)
+}
+
+/// Whether a literal is an atom at variables that are among the first ones.
+fn literal_given(count: usize, literal: &Literal) -> bool
+    ensures { result ≡ pruning.literal_given count literal.now }
+{
+    match literal {
+        Literal::Atom { vars, .. } => are_given(count, vars.as_slice()),
+        Literal::Equal { .. } => false,
+    }
+}
+
+/// Whether a literal has this truth whatever comes behind the first elements.
+fn literal_stays<T: Truth>(laid: &Laid<'_, T>, front: &[u32], sign: bool, literal: &Literal) -> bool
+    requires laid { IsLaid T.knows laid.now }
+    requires stands { (behind : Numbers ℕ) × LiteralStands laid.now.spec.now (front.now ++ behind) literal.now }
+    ensures { IsTrue result → (behind : Numbers ℕ) → truths.literal_true (truths_after T.truths laid.now) (front.now ++ behind) sign literal.now ≡ true }
+{
+    literal_given(front.len(), literal) && literal_true(laid, front, sign, literal)
+}
+
+/// Whether one of these literals has this truth whatever comes behind the first elements.
+fn any_stays<T: Truth>(laid: &Laid<'_, T>, front: &[u32], sign: bool, literals: &[Literal]) -> bool
+    requires laid { IsLaid T.knows laid.now }
+    requires stand { (behind : Numbers ℕ) × AllByRecursion (LiteralStands laid.now.spec.now (front.now ++ behind)) literals.now }
+    ensures { IsTrue result → (behind : Numbers ℕ) → list_any (truths.literal_true (truths_after T.truths laid.now) (front.now ++ behind) sign) literals.now ≡ true }
+{
+    for literal in literals {
+        if literal_stays(laid, front, sign, literal) {
+            return true;
+        }
+    }
+    false
+}
+
+/// Whether the clause is true, once the effect is laid over, whatever comes behind the first elements.
+fn clause_stays<T: Truth>(laid: &Laid<'_, T>, clause: &Clause, front: &[u32]) -> bool
+    requires laid { IsLaid T.knows laid.now }
+    requires stands { (behind : Numbers ℕ) × ClauseStands laid.now.spec.now (front.now ++ behind) clause.now }
+    ensures { IsTrue result → (behind : Numbers ℕ) → truths.instance_true (truths_after T.truths laid.now) (front.now ++ behind) clause.now ≡ true }
+{
+    any_stays(laid, front, false, clause.premise.as_slice())
+        || any_stays(laid, front, true, clause.conclusion.as_slice())
+}
+
+/// Whether there are few tuples below these sizes.
+fn are_few(sizes: &[u32]) -> bool {
+    match sizes {
+        [size] => *size <= 4,
+        [size, other] => *size <= 4 && *other <= 4,
+        _ => false,
+    }
+}
+
+/// The first element, from this one on, behind which the effect may make the clause false.
+fn next_behind<T>(
+    laid: &Laid<'_, T>,
+    clause: &Clause,
+    front: &[u32],
+    sizes: &[u32],
+    from: u32,
+) -> u32
+    ensures later { from ≤ result }
+    ensures untouched { (x : ℕ) → from ≤ x → x < result → pruning.clause_may laid.now.inst.now (truths.op_at laid.now.spec.now laid.now.inst.now.op).lines (front.now ++ x ∷ []) clause.now ≡ false }
+{
+    // To look at each of a few tuples takes less than to seek those that may be.
+    if are_few(sizes) {
+        return from;
+    }
+    let lines = lines_of(laid.spec, laid.inst);
+    next_broken(laid.inst, lines, clause, front, from)
+}
+
 /// The first elements, of those that begin so, at which the effect makes the clause false.
 fn find_broken<T: Truth>(
     laid: &Laid<'_, T>,
@@ -134,6 +213,7 @@ fn find_broken<T: Truth>(
 ) -> Option<Args>
     requires laid { IsLaid T.knows laid.now }
     requires few { length front + length sizes.now ≤ 4 }
+    requires some { AllByRecursion (λ size. 1 ≤ size) sizes.now }
     requires stands { StandsBehind laid.now.spec.now clause.now front sizes.now }
     ensures { result ≡ find (falsifies T.truths laid.now clause.now) (tuples_behind front sizes.now) }
 {
@@ -144,12 +224,14 @@ fn find_broken<T: Truth>(
             None
         };
     }
-    let lines = lines_of(laid.spec, laid.inst);
+    if clause_stays(laid, clause, front.as_slice()) {
+        return None;
+    }
     let (first, others) = sizes.split_at(1);
     let size = first[0];
     let mut x = 0;
     for _turn in 0..size {
-        let next = next_broken(laid.inst, lines, clause, front.as_slice(), x);
+        let next = next_behind(laid, clause, front.as_slice(), sizes, x);
         if next >= size {
             return None;
         }
@@ -179,6 +261,7 @@ pub(crate) fn var_sizes(spec: &Spec, vars: &[Var]) -> Args
 /// The first elements of its variables at which the effect makes the clause false.
 fn clause_broken<T: Truth>(laid: &Laid<'_, T>, clause: &Clause) -> Option<Args>
     requires laid { IsLaid T.knows laid.now }
+    requires sorts { AllByRecursion SortFits laid.now.spec.now.sorts }
     requires fits { ClauseFits laid.now.spec.now clause.now }
     ensures { result ≡ first_broken T.truths laid.now clause.now }
 {
