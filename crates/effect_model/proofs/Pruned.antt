@@ -40,6 +40,16 @@ any_sides p c =
     list_any-append p (map (signed false) c.premise) (map (signed true) c.conclusion)
     ∙ ap (λ b. b || list_any p (map (signed true) c.conclusion)) (any_mapped p (signed false) c.premise) ∙ ap (λ b. list_any (λ l. p (signed false l)) c.premise || b) (any_mapped p (signed true) c.conclusion)
 
+-- the other side first
+pub any_other_sides : (p : Signed → Bool) (c : Clause) → list_any p (literals c) ≡ (list_any (λ l. p (signed true l)) c.conclusion || list_any (λ l. p (signed false l)) c.premise)
+any_other_sides p c = any_sides p c ∙ turned (list_any (λ l. p (signed false l)) c.premise) (list_any (λ l. p (signed true l)) c.conclusion)
+  where
+    turned : (a b : Bool) → (a || b) ≡ (b || a)
+    turned true true = refl
+    turned true false = refl
+    turned false true = refl
+    turned false false = refl
+
 -- ---- where no line may make a literal of the clause false
 
 both_fail : (a b c d : Bool) → (a ≡ false → c ≡ false) → (b ≡ false → d ≡ false) → (a && b) ≡ false → (c && d) ≡ false

@@ -106,14 +106,15 @@ fn clause_set<T: Truth>(laid: &Laid<'_, T>, clause: &Clause, xs: &[u32]) -> bool
 }
 
 /// Whether the clause is true once the effect is laid over.
-#[tactic(auto, using(crate::proofs::Pruned::any_sides))]
+#[tactic(auto, using(crate::proofs::Pruned::any_other_sides))]
 fn clause_true<T: Truth>(laid: &Laid<'_, T>, clause: &Clause, xs: &[u32]) -> bool
     requires laid { IsLaid T.knows laid.now }
     requires stands { ClauseStands laid.now.spec.now xs.now clause.now }
     ensures { result ≡ truths.instance_true (truths_after T.truths laid.now) xs.now clause.now }
 {
-    any_true(laid, xs, false, clause.premise.as_slice())
-        || any_true(laid, xs, true, clause.conclusion.as_slice())
+    // A conclusion is often an equality, which takes least to ask.
+    any_true(laid, xs, true, clause.conclusion.as_slice())
+        || any_true(laid, xs, false, clause.premise.as_slice())
 }
 
 /// Whether the effect makes the clause false at these elements of its variables.
