@@ -1,6 +1,6 @@
 -- Joining two lists of entries in order.
-use Rattle.std.proofs.Common.{◌≡◌, ◌≢◌, ◌⊎◌, inl, inr, ◌<◌, List, [], ◌∷◌, ◌++◌, length, get_or, drop, refl, sym, ap, subst, append_assoc, arith}
-use Rattle.std.proofs.lemmas.List.{append-nil}
+use Rattle.std.proofs.Common.{◌≡◌, ◌≢◌, ◌⊎◌, inl, inr, ℕ, ◌+◌, ◌<◌, ◌≤◌, List, [], ◌∷◌, ◌++◌, length, get_or, drop, map, refl, sym, ap, subst, ◌∙◌, append_assoc, arith, Bor}
+use Rattle.std.proofs.lemmas.List.{append-nil, drop_all, drop_more, map-append}
 use Rattle.run_model.specs.declared.step.StepEntry.{StepEntry}
 use Rattle.run_model.specs.Runs.{Precedes, PrecedesFirst, InOrder}
 use Rattle.run_trace.specs.Merging.{Merges, AreApart}
@@ -14,10 +14,6 @@ pub record IsJoining (a b out xs ys : List StepEntry) : Type 0 where
 
 pub joining_none : (a b : List StepEntry) → InOrder a → InOrder b → AreApart a b → IsJoining a b [] a b
 joining_none a b h k apart = record { joins = λ c m. m; left = h; right = k; apart = apart }
-
-pub head_rest : (xs : List StepEntry) (x : StepEntry) → 0 < length xs → x ≡ get_or xs 0 x → xs ≡ x ∷ drop 1 xs
-head_rest [] x some is = absurd (omega arith)
-head_rest (e ∷ es) x some is = ap (λ (f : StepEntry). f ∷ es) (sym is)
 
 -- an entry that comes before what follows may stand between
 between : (out : List StepEntry) (x : StepEntry) (xs ys : List StepEntry) → InOrder (out ++ x ∷ xs) → InOrder (out ++ ys) → PrecedesFirst x ys → InOrder (out ++ x ∷ ys)
@@ -57,25 +53,49 @@ only_right [] = (refl, refl)
 only_right (y ∷ ys) = inr (ys, refl, only_right ys)
 
 -- where one of them has no more, the other is put behind
-pub joined : (a b out xs ys : List StepEntry) → (length xs ≡ 0) ⊎ (length ys ≡ 0) → IsJoining a b out xs ys → Merges a b ((out ++ xs) ++ ys) × InOrder ((out ++ xs) ++ ys)
+joined : (a b out xs ys : List StepEntry) → (length xs ≡ 0) ⊎ (length ys ≡ 0) → IsJoining a b out xs ys → Merges a b ((out ++ xs) ++ ys) × InOrder ((out ++ xs) ++ ys)
 joined a b out [] ys end h = (subst (λ (o : List StepEntry). Merges a b (o ++ ys)) (sym (append-nil out)) (h.joins ys (only_right ys)), subst (λ (o : List StepEntry). InOrder (o ++ ys)) (sym (append-nil out)) h.right)
 joined a b out (x ∷ xs) [] end h = (rw append-nil (h.joins (x ∷ xs) (only_left (x ∷ xs))), rw append-nil h.left)
 joined a b out (x ∷ xs) (y ∷ ys) (inl e) h = absurd (omega arith)
 joined a b out (x ∷ xs) (y ∷ ys) (inr e) h = absurd (omega arith)
 
--- the same, where the heads and rests are known by the reads
-pub took_left : (a b out xs ys rest : List StepEntry) (x y : StepEntry) → 0 < length xs → 0 < length ys → x ≡ get_or xs 0 x → y ≡ get_or ys 0 y → rest ≡ drop 1 xs → Precedes x y → IsJoining a b out xs ys → IsJoining a b (out ++ x ∷ []) rest ys
-took_left a b out xs ys rest x y some more is-x is-y is-rest first h =
-    let split-x = head_rest xs x some is-x in
-    let split-y = head_rest ys y more is-y in
-    let split : IsJoining a b out (x ∷ drop 1 xs) (y ∷ drop 1 ys) = subst (λ (zs : List StepEntry). IsJoining a b out (x ∷ drop 1 xs) zs) split-y (subst (λ (zs : List StepEntry). IsJoining a b out zs ys) split-x h) in
-    let taken = take_left a b out x y (drop 1 xs) (drop 1 ys) split first in
-    subst (λ (zs : List StepEntry). IsJoining a b (out ++ x ∷ []) rest zs) (sym split-y) (subst (λ (zs : List StepEntry). IsJoining a b (out ++ x ∷ []) zs (y ∷ drop 1 ys)) (sym is-rest) taken)
+-- ---- the same of entries that are read where they stand
 
-pub took_right : (a b out xs ys rest : List StepEntry) (x y : StepEntry) → 0 < length xs → 0 < length ys → x ≡ get_or xs 0 x → y ≡ get_or ys 0 y → rest ≡ drop 1 ys → (x.replica ≢ y.replica → Precedes y x) → IsJoining a b out xs ys → IsJoining a b (out ++ y ∷ []) xs rest
-took_right a b out xs ys rest x y some more is-x is-y is-rest first h =
-    let split-x = head_rest xs x some is-x in
-    let split-y = head_rest ys y more is-y in
-    let split : IsJoining a b out (x ∷ drop 1 xs) (y ∷ drop 1 ys) = subst (λ (zs : List StepEntry). IsJoining a b out (x ∷ drop 1 xs) zs) split-y (subst (λ (zs : List StepEntry). IsJoining a b out zs ys) split-x h) in
-    let taken = take_right a b out x y (drop 1 xs) (drop 1 ys) split (first split.apart.0.0) in
-    subst (λ (zs : List StepEntry). IsJoining a b (out ++ y ∷ []) zs rest) (sym split-x) (subst (λ (zs : List StepEntry). IsJoining a b (out ++ y ∷ []) (x ∷ drop 1 xs) zs) (sym is-rest) taken)
+abbrev pub those : List (Bor StepEntry) → List StepEntry
+those es = map (λ e. e.now) es
+
+-- what is out, and one more
+one_more : (out : List (Bor StepEntry)) (x : Bor StepEntry) → those (out ++ x ∷ []) ≡ those out ++ x.now ∷ []
+one_more out x = map-append (λ (e : Bor StepEntry). e.now) out (x ∷ [])
+
+-- those from one on
+from_one : (xs : List (Bor StepEntry)) (i : ℕ) (x : Bor StepEntry) → i < length xs → x ≡ get_or xs i x → those (drop i xs) ≡ x.now ∷ those (drop (i + 1) xs)
+from_one xs i x lt is = ap those (drop_more xs i x lt ∙ ap (λ (e : Bor StepEntry). e ∷ drop (i + 1) xs) (sym is))
+
+pub took_left : (a b : List StepEntry) (out xs ys : List (Bor StepEntry)) (i j : ℕ) (x y : Bor StepEntry) → i < length xs → j < length ys → x ≡ get_or xs i x → y ≡ get_or ys j y → Precedes x.now y.now → IsJoining a b (those out) (those (drop i xs)) (those (drop j ys)) → IsJoining a b (those (out ++ x ∷ [])) (those (drop (i + 1) xs)) (those (drop j ys))
+took_left a b out xs ys i j x y some more is-x is-y first h =
+    let split-x = from_one xs i x some is-x in
+    let split-y = from_one ys j y more is-y in
+    let split : IsJoining a b (those out) (x.now ∷ those (drop (i + 1) xs)) (y.now ∷ those (drop (j + 1) ys)) = subst (λ (zs : List StepEntry). IsJoining a b (those out) (x.now ∷ those (drop (i + 1) xs)) zs) split-y (subst (λ (zs : List StepEntry). IsJoining a b (those out) zs (those (drop j ys))) split-x h) in
+    let taken = take_left a b (those out) x.now y.now (those (drop (i + 1) xs)) (those (drop (j + 1) ys)) split first in
+    subst (λ (o : List StepEntry). IsJoining a b o (those (drop (i + 1) xs)) (those (drop j ys))) (sym (one_more out x)) (subst (λ (zs : List StepEntry). IsJoining a b (those out ++ x.now ∷ []) (those (drop (i + 1) xs)) zs) (sym split-y) taken)
+
+pub took_right : (a b : List StepEntry) (out xs ys : List (Bor StepEntry)) (i j : ℕ) (x y : Bor StepEntry) → i < length xs → j < length ys → x ≡ get_or xs i x → y ≡ get_or ys j y → (x.now.replica ≢ y.now.replica → Precedes y.now x.now) → IsJoining a b (those out) (those (drop i xs)) (those (drop j ys)) → IsJoining a b (those (out ++ y ∷ [])) (those (drop i xs)) (those (drop (j + 1) ys))
+took_right a b out xs ys i j x y some more is-x is-y first h =
+    let split-x = from_one xs i x some is-x in
+    let split-y = from_one ys j y more is-y in
+    let split : IsJoining a b (those out) (x.now ∷ those (drop (i + 1) xs)) (y.now ∷ those (drop (j + 1) ys)) = subst (λ (zs : List StepEntry). IsJoining a b (those out) (x.now ∷ those (drop (i + 1) xs)) zs) split-y (subst (λ (zs : List StepEntry). IsJoining a b (those out) zs (those (drop j ys))) split-x h) in
+    let taken = take_right a b (those out) x.now y.now (those (drop (i + 1) xs)) (those (drop (j + 1) ys)) split (first split.apart.0.0) in
+    subst (λ (o : List StepEntry). IsJoining a b o (those (drop i xs)) (those (drop (j + 1) ys))) (sym (one_more out y)) (subst (λ (zs : List StepEntry). IsJoining a b (those out ++ y.now ∷ []) zs (those (drop (j + 1) ys))) (sym split-x) taken)
+
+both_behind : (out xs ys : List (Bor StepEntry)) → those ((out ++ xs) ++ ys) ≡ (those out ++ those xs) ++ those ys
+both_behind out xs ys = map-append (λ (e : Bor StepEntry). e.now) (out ++ xs) ys ∙ ap (λ (o : List StepEntry). o ++ those ys) (map-append (λ (e : Bor StepEntry). e.now) out xs)
+
+none_from : (xs : List (Bor StepEntry)) (i : ℕ) → length xs ≤ i → length (those (drop i xs)) ≡ 0
+none_from xs i le = ap (λ (es : List (Bor StepEntry)). length (those es)) (drop_all i xs le)
+
+pub joined_from : (a b : List StepEntry) (out xs ys : List (Bor StepEntry)) (i j : ℕ) → (length xs ≤ i) ⊎ (length ys ≤ j) → IsJoining a b (those out) (those (drop i xs)) (those (drop j ys))
+    → Merges a b (those ((out ++ drop i xs) ++ drop j ys)) × InOrder (those ((out ++ drop i xs) ++ drop j ys))
+joined_from a b out xs ys i j end h =
+    let ends : (length (those (drop i xs)) ≡ 0) ⊎ (length (those (drop j ys)) ≡ 0) = elim end [ inl e ↦ inl (none_from xs i e) | inr e ↦ inr (none_from ys j e) ] in
+    subst (λ (o : List StepEntry). Merges a b o × InOrder o) (sym (both_behind out (drop i xs) (drop j ys))) (joined a b (those out) (those (drop i xs)) (those (drop j ys)) ends h)

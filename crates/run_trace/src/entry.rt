@@ -1,6 +1,6 @@
 //! The text of a step.
 
-ghost use Rattle.std.specs.Prelude.{◌≡◌, ◌∷◌, [], ◌++◌, OnOk, codes, decimal};
+ghost use Rattle.std.specs.Prelude.{◌≡◌, ◌∷◌, [], ◌++◌, map, OnOk, codes, decimal};
 ghost use Rattle.std.specs.List.{flat_map};
 ghost use Rattle.run_model.specs.Trace as trace;
 
@@ -174,9 +174,9 @@ fn put_entry(out: &mut List<u8>, spec: &Spec, entry: &StepEntry) -> Result<(), N
 pub(crate) fn put_entries(
     out: &mut List<u8>,
     spec: &Spec,
-    entries: &[StepEntry],
+    entries: &[&StepEntry],
 ) -> Result<(), NoMemory>
-    ensures { OnOk result (out.new ≡ out.old ++ flat_map (trace.entry_text spec.now) entries.now) }
+    ensures { OnOk result (out.new ≡ out.old ++ flat_map (trace.entry_text spec.now) (map (λ e. e.now) entries.now)) }
 {
     for entry in entries {
         put_entry(out, spec, entry)?;

@@ -1,6 +1,6 @@
 //! The entries of several replicas in one order.
 
-ghost use Rattle.std.specs.Prelude.{◌≡◌, ◌≢◌, IfOk, OnOk, MatchBool, ◌++◌};
+ghost use Rattle.std.specs.Prelude.{◌≡◌, ◌≢◌, map, IfOk, MatchBool};
 ghost use Rattle.run_model.specs.Runs.{Precedes, InOrder};
 ghost use Rattle.run_trace.specs.Merging.{AreApart, AreHistories, IsMerged, Merges};
 
@@ -14,43 +14,74 @@ fn comes_first(a: &StepEntry, b: &StepEntry) -> bool
     a.stamp < b.stamp || (a.stamp == b.stamp && a.replica < b.replica)
 }
 
-/// Adds copies of all entries at the end.
-fn extend(alloc: Global, out: &mut List<StepEntry>, more: &[StepEntry]) -> Result<(), NoMemory>
-    ensures { OnOk result (out.new ≡ out.old ++ more.now) }
+/// Each of the entries, where it stands.
+fn each_of<'a>(alloc: Global, entries: &'a [StepEntry]) -> Result<Vec<&'a StepEntry>, NoMemory>
+    ensures { IfOk result (λ all. map (λ e. e.now) all.items ≡ entries.now) }
 {
-    for entry in more {
-        push_entry(out, entry.copy(alloc)?)?;
+    let mut all = Vec::with_capacity(alloc, entries.len())?;
+    for entry in entries {
+        all.push(entry)?;
     }
-    Ok(())
+    Ok(all)
 }
 
 /// The entries of both, by stamp and then replica.
-fn merge_two(alloc: Global, a: &[StepEntry], b: &[StepEntry]) -> Result<List<StepEntry>, NoMemory>
-    requires a_in_order { InOrder a.now }
-    requires b_in_order { InOrder b.now }
-    requires apart { AreApart a.now b.now }
-    ensures merged { IfOk result (λ c. Merges a.now b.now c) }
-    ensures in_order { IfOk result (λ c. InOrder c) }
+fn merge_two<'a>(
+    alloc: Global,
+    a: &[&'a StepEntry],
+    b: &[&'a StepEntry],
+) -> Result<Vec<&'a StepEntry>, NoMemory>
+    requires a_in_order { InOrder (map (λ e. e.now) a.now) }
+    requires b_in_order { InOrder (map (λ e. e.now) b.now) }
+    requires apart { AreApart (map (λ e. e.now) a.now) (map (λ e. e.now) b.now) }
+    ensures merged { IfOk result (λ c. Merges (map (λ e. e.now) a.now) (map (λ e. e.now) b.now) (map (λ e. e.now) c.items)) }
+    ensures in_order { IfOk result (λ c. InOrder (map (λ e. e.now) c.items)) }
 {
-    let mut out = List::from_vec(Vec::with_capacity(alloc, a.len().saturating_add(b.len()))?);
-    let mut a = a;
-    let mut b = b;
-    'joining: while !a.is_empty() && !b.is_empty() {
-        let x = &a[0];
-        let y = &b[0];
+    let mut out = Vec::with_capacity(alloc, a.len().saturating_add(b.len()))?;
+    let mut from_a = 0;
+    let mut from_b = 0;
+    'joining: while from_a < a.len() && from_b < b.len() {
+        let x = a[from_a];
+        let y = b[from_b];
         if comes_first(x, y) {
-            push_entry(&mut out, x.copy(alloc)?)?;
-            let (_, rest) = a.split_at(1);
-            a = rest;
+            out.push(x)?;
+            from_a += 1;
         } else {
-            push_entry(&mut out, y.copy(alloc)?)?;
-            let (_, rest) = b.split_at(1);
-            b = rest;
+            out.push(y)?;
+            from_b += 1;
         }
     }
-    extend(alloc, &mut out, a)?;
-    extend(alloc, &mut out, b)?;
+    out.extend_from_slice(a.split_at(from_a).1)?;
+    out.extend_from_slice(b.split_at(from_b).1)?;
     Ok(out)
+}
+
+/// The entries of all histories where they stand, by stamp and then replica. The history at a place
+/// is that of the replica with this number.
+pub(crate) fn in_order<'a>(
+    alloc: Global,
+    histories: &'a [History],
+) -> Result<Vec<&'a StepEntry>, NoMemory>
+    requires { AreHistories histories.now }
+    ensures { IfOk result (λ entries. IsMerged histories.now (map (λ e. e.now) entries.items)) }
+{
+    let mut entries: Vec<&'a StepEntry> = Vec::new(alloc);
+    for history in histories {
+        let own = each_of(alloc, history.entries.as_slice())?;
+        entries = merge_two(alloc, entries.as_slice(), own.as_slice())?;
+    }
+    Ok(entries)
+}
+
+/// Copies of entries.
+fn copies(alloc: Global, entries: &[&StepEntry]) -> Result<List<StepEntry>, NoMemory>
+    ensures { IfOk result (λ all. all ≡ map (λ e. e.now) entries.now) }
+{
+    let mut all = List::from_vec(Vec::with_capacity(alloc, entries.len())?);
+    for entry in entries {
+        push_entry(&mut all, entry.copy(alloc)?)?;
+    }
+    Ok(all)
 }
 
 /// The entries of all histories, by stamp and then replica. The history at a place is that of the
@@ -59,9 +90,6 @@ pub fn merge(alloc: Global, histories: &[History]) -> Result<List<StepEntry>, No
     requires { AreHistories histories.now }
     ensures { IfOk result (λ entries. IsMerged histories.now entries) }
 {
-    let mut entries: List<StepEntry> = List::new(alloc);
-    for history in histories {
-        entries = merge_two(alloc, entries.as_slice(), history.entries.as_slice())?;
-    }
-    Ok(entries)
+    let entries = in_order(alloc, histories)?;
+    copies(alloc, entries.as_slice())
 }

@@ -7,7 +7,7 @@ ghost use Rattle.run_trace.specs.Merging.{AreHistories, IsMerged};
 
 use crate::entry::put_entries;
 use crate::last::put_lasts;
-use crate::order::merge;
+use crate::order::in_order;
 use ind_base::{List, NoMemory};
 use run_model::History;
 use spec_model::Spec;
@@ -21,7 +21,7 @@ pub fn trace_text(alloc: Global, spec: &Spec, histories: &[History]) -> Result<L
     ensures { IfOk result (λ text. (entries : _) × IsMerged histories.now entries
         × (text ≡ flat_map (trace.entry_text spec.now) entries ++ trace.lasts_text spec.now 0 (map (λ h. h.last) histories.now))) }
 {
-    let entries = merge(alloc, histories)?;
+    let entries = in_order(alloc, histories)?;
     let mut text = List::new(alloc);
     put_entries(&mut text, spec, entries.as_slice())?;
     put_lasts(&mut text, spec, histories)?;

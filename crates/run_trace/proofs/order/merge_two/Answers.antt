@@ -1,35 +1,36 @@
-use Rattle.std.proofs.Common.{◌≡◌, ◌⊎◌, inl, inr, length, sym, ◌∙◌, arith}
-use Rattle.std.proofs.lemmas.Bool.{eqb-true, eqb-false}
-use Rattle.run_trace.proofs.Joined.{took_left, took_right, joined}
+use Rattle.std.proofs.Common.{◌⊎◌, inl, inr, ◌≤◌, length, arith}
+use Rattle.run_trace.proofs.Joined.{took_left, took_right, joined_from}
 use Rattle.run_trace.proofs.order.merge_two.Goals as goal
-use Rattle.run_trace.proofs.order.merge_two.Goals.{then-joining-test+else-not-is_empty, else-joining-test}
+use Rattle.run_trace.proofs.order.merge_two.Goals.{then-joining-test+else-from_b-b, else-joining-test}
 
 pub joining-preserved-then-comes_first : goal.joining-preserved-then-comes_first
-joining-preserved-then-comes_first c =
-    let some = eqb-false _ _ (sym c.is_empty.ensures ∙ c.joining-test.true) in
-    let more = eqb-false _ _ (sym c.is_empty-in-joining.ensures ∙ c.if-not-is_empty.true) in
-    rw (c.in_ok-push_entry.ensures.ok, c.in_ok-copy.ensures) (took_left _ _ _ c.joining.a.now c.joining.b.now _ _ _ (omega arith) (omega arith) c.index-a-0.is c.index-b-0.is c.split_at.ensures.back c.if-comes_first.ensures c.joining.invariant)
+joining-preserved-then-comes_first c = record {
+  joins = rw c.in_ok-push.ensures.items (took_left _ _ c.joining.out.items c.args.a.now c.args.b.now c.joining.from_a c.joining.from_b c.index-a-from_a.result c.index-b-from_b.result c.joining-test.true c.if-from_b-b.true c.index-a-from_a.is c.index-b-from_b.is c.if-comes_first.ensures c.joining.invariant.joins);
+  in_a = omega (arith, c.joining-test.true);
+  in_b = c.joining.invariant.in_b;
+}
 
 pub joining-preserved : goal.joining-preserved
-joining-preserved c =
-    let some = eqb-false _ _ (sym c.is_empty.ensures ∙ c.joining-test.true) in
-    let more = eqb-false _ _ (sym c.is_empty-in-joining.ensures ∙ c.if-not-is_empty.true) in
-    rw (c.in_ok-push_entry-2.ensures.ok, c.in_ok-copy-2.ensures) (took_right _ _ _ c.joining.a.now c.joining.b.now _ _ _ (omega arith) (omega arith) c.index-a-0.is c.index-b-0.is c.split_at-else-comes_first.ensures.back c.if-comes_first.ensures c.joining.invariant)
+joining-preserved c = record {
+  joins = rw c.in_ok-push-2.ensures.items (took_right _ _ c.joining.out.items c.args.a.now c.args.b.now c.joining.from_a c.joining.from_b c.index-a-from_a.result c.index-b-from_b.result c.joining-test.true c.if-from_b-b.true c.index-a-from_a.is c.index-b-from_b.is c.if-comes_first.ensures c.joining.invariant.joins);
+  in_a = c.joining.invariant.in_a;
+  in_b = omega (arith, c.if-from_b-b.true);
+}
 
 pub returns-clause-merged : goal.returns-clause-merged
 returns-clause-merged c =
-    let end : (length c.joining.a.now ≡ 0) ⊎ (length c.joining.b.now ≡ 0) =
+    let end : (length c.args.a.now ≤ c.joining.from_a) ⊎ (length c.args.b.now ≤ c.joining.from_b) =
     elim c.joining-test.branch [
-      | then-joining-test+else-not-is_empty w ↦ inr (eqb-true _ _ (sym w.is_empty-in-joining.ensures ∙ w.if-not-is_empty.false))
-      | else-joining-test w ↦ inl (eqb-true _ _ (sym c.is_empty.ensures ∙ w.joining-test.false))
+      | then-joining-test+else-from_b-b w ↦ inr (omega (arith, w.if-from_b-b.false))
+      | else-joining-test w ↦ inl (omega (arith, w.joining-test.false))
     ] in
-    rw (c.in_ok-extend-2.ensures, c.in_ok-extend.ensures) (joined _ _ _ _ _ end c.joining.invariant).0
+    rw (c.in_ok-extend_from_slice-2.ensures.items, c.in_ok-extend_from_slice.ensures.items, c.split_at-2.ensures.back, c.split_at.ensures.back) (joined_from _ _ c.joining.out.items c.args.a.now c.args.b.now c.joining.from_a c.joining.from_b end c.joining.invariant.joins).0
 
 pub returns-clause-in_order : goal.returns-clause-in_order
 returns-clause-in_order c =
-    let end : (length c.joining.a.now ≡ 0) ⊎ (length c.joining.b.now ≡ 0) =
+    let end : (length c.args.a.now ≤ c.joining.from_a) ⊎ (length c.args.b.now ≤ c.joining.from_b) =
     elim c.joining-test.branch [
-      | then-joining-test+else-not-is_empty w ↦ inr (eqb-true _ _ (sym w.is_empty-in-joining.ensures ∙ w.if-not-is_empty.false))
-      | else-joining-test w ↦ inl (eqb-true _ _ (sym c.is_empty.ensures ∙ w.joining-test.false))
+      | then-joining-test+else-from_b-b w ↦ inr (omega (arith, w.if-from_b-b.false))
+      | else-joining-test w ↦ inl (omega (arith, w.joining-test.false))
     ] in
-    rw (c.in_ok-extend-2.ensures, c.in_ok-extend.ensures) (joined _ _ _ _ _ end c.joining.invariant).1
+    rw (c.in_ok-extend_from_slice-2.ensures.items, c.in_ok-extend_from_slice.ensures.items, c.split_at-2.ensures.back, c.split_at.ensures.back) (joined_from _ _ c.joining.out.items c.args.a.now c.args.b.now c.joining.from_a c.joining.from_b end c.joining.invariant.joins).1
