@@ -187,20 +187,13 @@ unfolding term_may
 next_lacks has front x t v is e = ap (λ n. option_map_or (term_has has t) (slice_get (front ++ x ∷ []) n) true) is ∙ ap (λ o. option_map_or (term_has has t) o true) (get_next front x) ∙ e
 
 -- what fails at some elements fails at more
-term_longer : (has : ℕ → ℕ → Bool) (front xs : List ℕ) (t : Term) (v : ℕ) → term_may has front t v ≡ false → term_may has (front ++ xs) t v ≡ false
+pub term_longer : (has : ℕ → ℕ → Bool) (front xs : List ℕ) (t : Term) (v : ℕ) → term_may has front t v ≡ false → term_may has (front ++ xs) t v ≡ false
 unfolding term_may
 term_longer has front xs t v e = by_element (slice_get front v) refl e
   where
     by_element : (o : Option ℕ) → slice_get front v ≡ o → option_map_or (term_has has t) o true ≡ false → option_map_or (term_has has t) (slice_get (front ++ xs) v) true ≡ false
     by_element None is e = absurd cc
     by_element (Some x) is e = ap (λ o. option_map_or (term_has has t) o true) (get_longer front xs v x is) ∙ e
-
-pub terms_longer : (has : ℕ → ℕ → Bool) (front xs : List ℕ) (terms : List Term) (vars : List ℕ) → terms_may has front terms vars ≡ false → terms_may has (front ++ xs) terms vars ≡ false
-terms_longer has front xs [] [] e = absurd cc
-terms_longer has front xs [] (v ∷ vars) e = refl
-terms_longer has front xs (t ∷ terms) [] e = refl
-terms_longer has front xs (t ∷ terms) (v ∷ vars) e =
-    both_fail (term_may has front t v) (terms_may has front terms vars) (term_may has (front ++ xs) t v) (terms_may has (front ++ xs) terms vars) (term_longer has front xs t v) (terms_longer has front xs terms vars) e
 
 -- one more term with its variable
 step : (has : ℕ → ℕ → Bool) (front : List ℕ) (terms : List Term) (i : ℕ) (d : Term) (left : List ℕ) → i < length terms → 1 ≤ length left

@@ -22,23 +22,6 @@ fn term_may(inst: &Inst, front: &[u32], term: &Term, var: u32) -> bool
     }
 }
 
-/// Whether terms may touch an atom at these variables.
-fn terms_may(inst: &Inst, front: &[u32], terms: &[Term], vars: &[u32]) -> bool
-    ensures { result ≡ pruning.terms_may (inst_has inst.now) front.now terms.now vars.now }
-{
-    let mut left = vars;
-    for term in terms {
-        let [var, rest @ ..] = left else {
-            return false;
-        };
-        if !term_may(inst, front, term, *var) {
-            return false;
-        }
-        left = rest;
-    }
-    left.is_empty()
-}
-
 /// What is done to literals of one sign where the first variables have these elements.
 #[derive(Clone, Copy)]
 struct Seeking<'a> {
@@ -49,21 +32,23 @@ struct Seeking<'a> {
 }
 
 impl Seeking<'_> {
-    /// The first element, from this one on, that a term has, where its variable is the next one.
-    #[tactic(auto, using(crate::proofs::Pruned::next_lacks))]
+    /// The first element, from this one on, with which a term may have its variable's element.
+    #[tactic(auto, using(crate::proofs::Pruned::next_lacks, crate::proofs::Pruned::term_longer))]
     fn var_next(&self, term: &Term, var: u32, from: u32) -> u32
         ensures later { from ≤ result }
         ensures untouched { (x : ℕ) → from ≤ x → x < result → pruning.term_may (inst_has self.now.inst.now) (self.now.front.now ++ x ∷ []) term.now var ≡ false }
     {
         if var as usize == self.front.len() {
             term_next(self.inst, term, from)
-        } else {
+        } else if term_may(self.inst, self.front, term, var) {
             from
+        } else {
+            u32::MAX
         }
     }
 
-    /// The first element, from this one on, that all terms over the next variable have.
-    fn vars_next(&self, terms: &[Term], vars: &[u32], from: u32) -> u32
+    /// The first element, from this one on, with which terms may touch an atom at these variables.
+    fn terms_next(&self, terms: &[Term], vars: &[u32], from: u32) -> u32
         ensures later { from ≤ result }
         ensures untouched { (x : ℕ) → from ≤ x → x < result → pruning.terms_may (inst_has self.now.inst.now) (self.now.front.now ++ x ∷ []) terms.now vars.now ≡ false }
     {
@@ -77,18 +62,6 @@ impl Seeking<'_> {
             left = rest;
         }
         next
-    }
-
-    /// The first element, from this one on, with which terms may touch an atom at these variables.
-    fn terms_next(&self, terms: &[Term], vars: &[u32], from: u32) -> u32
-        ensures later { from ≤ result }
-        ensures untouched { (x : ℕ) → from ≤ x → x < result → pruning.terms_may (inst_has self.now.inst.now) (self.now.front.now ++ x ∷ []) terms.now vars.now ≡ false }
-    {
-        if terms_may(self.inst, self.front, terms, vars) {
-            self.vars_next(terms, vars, from)
-        } else {
-            u32::MAX
-        }
     }
 
     /// The first element, from this one on, with which a line may make the literal false that is over a

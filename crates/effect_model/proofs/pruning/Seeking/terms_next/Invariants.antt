@@ -1,7 +1,7 @@
 use Rattle.std.proofs.Common.{◌≡◌, ◌≤◌, ◌<◌, ◌++◌, ◌∷◌, [], ℕ, drop, false}
 use Rattle.spec_model.specs.Truths.{inst_has}
 use Rattle.effect_model.specs.Pruning.{terms_may}
-use Rattle.effect_model.proofs.pruning.Seeking.vars_next.Given as goal
+use Rattle.effect_model.proofs.pruning.Seeking.terms_next.Given as goal
 
 -- no element before the next one will do, and where the terms that are left fail all do
 abbrev pub invariant-loop-term : goal.invariant-loop-term
