@@ -5,9 +5,9 @@ ghost use Rattle.multilevel_locks.specs.Holdings as shares_of;
 
 use escrow_rights::Escrow;
 use ind_base::{NoMemory, RightKind, Span};
-use multilevel_locks::{Shares, SharesPiece};
+use multilevel_locks::{Shares, SharesPiece, mode_permits};
 use partition_locks::Points;
-use spec_model::{Held, Mode, Piece, WantAsk};
+use spec_model::{Amount, Held, Mode, Piece, WantAsk};
 use std::alloc::Global;
 
 /// What is held of one right: a count, shares in a mode, or points.
@@ -73,6 +73,8 @@ fn accept_shares(held: &mut Shares, piece: SharesPiece)
 impl Holding {
     ghost use Rattle.rights_table.specs.First.{IsOfSome, IsSame};
     ghost use Rattle.rights_table.specs.Holdings as holdings;
+    ghost use Rattle.run_model.specs.Holding.{span_in};
+    ghost use Rattle.run_model.specs.Levels as levels;
 
     /// What is told of it, of points those of a span.
     pub(crate) fn told(&self, span: &Span) -> Held
@@ -88,6 +90,20 @@ impl Holding {
                 missing: points.first_missing(span),
                 run: points.first_run(span),
             },
+        }
+    }
+
+    /// Whether it permits an amount, where so many are all shares. Of points no run is sought.
+    pub(crate) fn allows(&self, all: u32, amount: &Amount) -> bool
+        ensures { result ≡ levels.permits all (holdings.told self.now (span_in amount.now)) amount.now }
+    {
+        match (self, amount) {
+            (Holding::Count(escrow), Amount::Count(n)) => *n <= escrow.count,
+            (Holding::Shares(shares), Amount::Level(level)) => {
+                shares.shares == all || (shares.shares > 0 && mode_permits(shares.mode, *level))
+            }
+            (Holding::Points(points), Amount::Points(span)) => points.first_missing(span).is_none(),
+            _ => false,
         }
     }
 

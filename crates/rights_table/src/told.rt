@@ -79,8 +79,13 @@ impl Table {
         requires replicas { replicas_of self.now ≡ setup.now.replicas }
         ensures { result ≡ levels.is_permitted setup.now.replicas (holding_in setup.now self.now) (record { right = right.now; amount = amount.now }) }
     {
-        let held = self.held_of(setup, right, &span_in(amount));
-        permits(setup.replicas, &held, amount)
+        match self.entry(right) {
+            Some(holding) => holding.allows(setup.replicas, amount),
+            None => {
+                let held = first_told(setup, self.me, right, &span_in(amount));
+                permits(setup.replicas, &held, amount)
+            }
+        }
     }
 
     /// Whether forbid is permitted on some of these literals of the right's instance.
