@@ -2,6 +2,7 @@
 
 ghost use Rattle.std.specs.Prelude.{◌≡◌};
 ghost use Rattle.std.specs.Cmp.{partial_equiv_from_equiv};
+ghost use Rattle.std.specs.Str.{bytes_eq as same_numbers};
 ghost use Rattle.run_model.specs.Rights.{same_right};
 ghost use Rattle.rights_table.specs.Keys as keys;
 ghost use Rattle.rights_table.specs.Keys.{fed_of, same_equiv, same_fed};
@@ -39,13 +40,68 @@ impl Key {
     }
 }
 
+/// Whether these are the same few numbers, one by one: for so few that takes less than to compare
+/// them in blocks.
+fn same_args(a: &Args, b: &Args) -> bool
+    ensures { result ≡ same_numbers a.now b.now }
+{
+    let mut left = b.as_slice();
+    for x in a.as_slice() {
+        let [y, rest @ ..] = left else {
+            return false;
+        };
+        if *x != *y {
+            return false;
+        }
+        left = rest;
+    }
+    left.is_empty()
+}
+
+/// Whether the two are one right.
+fn same(a: &Right, b: &Right) -> bool
+    ensures { result ≡ same_right a.now b.now }
+{
+    match (a, b) {
+        (Right::Low(a), Right::Low(b)) => a.num == b.num && same_args(&a.args, &b.args),
+        (Right::High(a), Right::High(b)) => a.num == b.num && same_args(&a.args, &b.args),
+        (
+            Right::Lock { lock: a, key },
+            Right::Lock {
+                lock: b,
+                key: other,
+            },
+        ) => a == b && same_args(key, other),
+        (
+            Right::Entry {
+                clause: a,
+                args,
+                literal: i,
+            },
+            Right::Entry {
+                clause: b,
+                args: others,
+                literal: j,
+            },
+        ) => a == b && same_args(args, others) && i == j,
+        (
+            Right::Part { part: a, key },
+            Right::Part {
+                part: b,
+                key: other,
+            },
+        ) => a == b && same_args(key, other),
+        _ => false,
+    }
+}
+
 impl PartialEq for Key {
     ghost eq = { same_right };
 
     ghost laws = { partial_equiv_from_equiv same_equiv };
 
     fn eq(&self, other: &Key) -> bool {
-        self.right == other.right
+        same(&self.right, &other.right)
     }
 }
 

@@ -1,3 +1,4 @@
 pub mod Joined
 pub mod Gathered
 pub mod Arguments
+pub mod Heads

@@ -9,10 +9,14 @@ use ind_base::{List, NoMemory, Span, put_num};
 use run_model::{CellValue, Final, History, Hold};
 use spec_model::{Atom, Spec};
 
-/// How a line about a replica begins.
+/// How a line about a replica begins. Nearly all replicas have one digit.
+#[tactic(auto, using(crate::proofs::Heads::one_digit))]
 fn put_replica(out: &mut List<u8>, me: u32) -> Result<(), NoMemory>
     ensures { OnOk result (out.new ≡ out.old ++ codes "r" ++ decimal me ++ codes " ") }
 {
+    if me < 10 {
+        return out.extend(&[b'r', b'0' + me as u8, b' ']);
+    }
     out.push(b'r')?;
     put_num(out, u64::from(me))?;
     out.push(b' ')
