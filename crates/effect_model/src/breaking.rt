@@ -82,14 +82,17 @@ fn literal_true<T: Truth>(laid: &Laid<'_, T>, xs: &[u32], sign: bool, literal: &
     }
 }
 
-/// Whether one of these literals has this truth once the effect is laid over.
+/// Whether one of these literals has this truth once the effect is laid over. The last ones are asked
+/// first: where the search has come to the last variables, the first ones were found to lack it.
 fn any_true<T: Truth>(laid: &Laid<'_, T>, xs: &[u32], sign: bool, literals: &[Literal]) -> bool
     requires laid { IsLaid T.knows laid.now }
     requires stand { AllByRecursion (LiteralStands laid.now.spec.now xs.now) literals.now }
     ensures { result ≡ list_any (truths.literal_true (truths_after T.truths laid.now) xs.now sign) literals.now }
 {
-    for literal in literals {
-        if literal_true(laid, xs, sign, literal) {
+    let mut at = literals.len();
+    'back: while at > 0 {
+        at -= 1;
+        if literal_true(laid, xs, sign, &literals[at]) {
             return true;
         }
     }
