@@ -1,15 +1,15 @@
 -- A tuple's place is found from the first number on, and a tuple from its place.
-use Rattle.std.proofs.Common.{◌≡◌, ℕ, ◌+◌, ◌*◌, ◌/◌, ◌%◌, ◌<◌, ◌≤◌, List, [], ◌∷◌, ◌++◌, length, get_or, drop, refl, sym, ap, ◌∙◌, subst, arith, append_assoc, add-mul, mul_assoc}
+use Rattle.std.proofs.Common.{◌≡◌, ℕ, zero, suc, ◌+◌, ◌*◌, ◌/◌, ◌%◌, ◌<◌, ◌≤◌, List, [], ◌∷◌, ◌++◌, length, get_or, drop, refl, sym, ap, ◌∙◌, subst, arith, append_assoc, add-mul, mul_assoc}
 use Rattle.std.specs.List.{AllByRecursion}
 use Rattle.std.proofs.Math.Nat.{mul-div_cancel_left}
 use Rattle.std.proofs.lemmas.List.{drop_more}
 use Rattle.std.proofs.lemmas.Nat.{mul-le, mod_below}
 use Rattle.spec_model.specs.declared.spec.Spec.{Spec}
 use Rattle.spec_model.specs.Fits.{SortFits}
-use Rattle.spec_model.specs.Truths.{size_of}
+use Rattle.spec_model.specs.Truths.{Within, size_of}
 use Rattle.spec_model.specs.Universe.{tuple_count, sizes_of}
 use Rattle.effect_model.specs.Tuples.{SortsKnown, rank, tuple_at}
-use Rattle.effect_model.proofs.Sizes.{size_some, count_within, all_at, factor_small}
+use Rattle.effect_model.proofs.Sizes.{size_some, count_within, all_at, factor_small, within_length}
 use Rattle.effect_model.proofs.Tuples.{some_count, Below}
 
 -- the place so far, before these sizes and elements: what is left gives the whole place, and it stays within the count
@@ -43,6 +43,26 @@ pub placing_more : (total count place i d e : ℕ) (sizes xs : List ℕ) → i <
 placing_more total count place i d e sizes xs lt lx p =
     placing_cons total count place (get_or sizes i d) (get_or xs i e) (drop (i + 1) sizes) (drop (i + 1) xs)
     (subst (λ (ss : List ℕ). IsPlacing total count place ss (get_or xs i e ∷ drop (i + 1) xs)) (drop_more sizes i d lt) (subst (λ (ys : List ℕ). IsPlacing total count place (drop i sizes) ys) (drop_more xs i e lx) p))
+
+size_at : (spec : Spec) (i d : ℕ) (sorts : List ℕ) → i < length sorts → get_or (sizes_of spec sorts) i 0 ≡ size_of spec (get_or sorts i d)
+size_at spec i d [] lt = absurd (omega arith)
+size_at spec zero d (s ∷ sorts) lt = refl
+size_at spec (suc i) d (s ∷ sorts) lt = size_at spec i d sorts (omega arith)
+
+sizes_long : (spec : Spec) (sorts : List ℕ) → length (sizes_of spec sorts) ≡ length sorts
+sizes_long spec [] = refl
+sizes_long spec (s ∷ sorts) = ap suc (sizes_long spec sorts)
+
+-- elements within the sizes of sorts are as many as these
+pub as_many : (spec : Spec) (i : ℕ) (sorts xs : List ℕ) → Within (λ s. s) (sizes_of spec sorts) xs → i < length sorts → i < length xs
+as_many spec i sorts xs w lt = omega (arith, within_length (λ s. s) (sizes_of spec sorts) xs w, sizes_long spec sorts, lt)
+
+-- the same over sorts
+pub placing_over : (spec : Spec) (total count place size i d e : ℕ) (sorts xs : List ℕ) → i < length sorts → i < length xs → size ≡ size_of spec (get_or sorts i d) → IsPlacing total count place (drop i (sizes_of spec sorts)) (drop i xs)
+    → IsPlacing total count (place * size + get_or xs i e) (drop (i + 1) (sizes_of spec sorts)) (drop (i + 1) xs)
+placing_over spec total count place size i d e sorts xs lt lx is p =
+    subst (λ (n : ℕ). IsPlacing total count (place * n + get_or xs i e) (drop (i + 1) (sizes_of spec sorts)) (drop (i + 1) xs)) (size_at spec i d sorts lt ∙ sym is)
+    (placing_more total count place i 0 e (sizes_of spec sorts) xs (omega (arith, lt, sizes_long spec sorts)) lx p)
 
 -- the place so far is below the count
 pub placing_small : (total count place : ℕ) (sizes xs : List ℕ) → IsPlacing total count place sizes xs → place < count

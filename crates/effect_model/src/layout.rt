@@ -100,6 +100,20 @@ pub(crate) fn tuple_place(sizes: &[u32], args: &[u32]) -> usize
     place
 }
 
+/// The place of a tuple among all tuples over these sorts, in lexicographic order.
+fn place_over(spec: &Spec, sorts: &[u32], args: &[u32]) -> usize
+    requires within { Within (λ s. s) (sizes_of spec.now sorts.now) args.now }
+    requires small { tuple_count (sizes_of spec.now sorts.now) ≤ 65536 }
+    ensures value { result ≡ rank (sizes_of spec.now sorts.now) args.now }
+    ensures within { result < tuple_count (sizes_of spec.now sorts.now) }
+{
+    let mut place = 0usize;
+    for (at, sort) in sorts.iter().enumerate() {
+        place = place * size_of(spec, *sort) as usize + args[at] as usize;
+    }
+    place
+}
+
 /// The tuple at a place among all tuples over these sorts.
 pub(crate) fn tuple_in(spec: &Spec, sorts: &[u32], place: usize) -> Args
     requires sizes { AllByRecursion SortFits spec.now.sorts }
@@ -137,8 +151,7 @@ pub(crate) fn place_of<D: Declared>(spec: &Spec, declared: &[D], tuple: &Tuple) 
     ensures { slice_get (tuples_of spec.now D.sorts_of 0 declared.now) result ≡ Some tuple.now }
 {
     let (before, rest) = declared.split_at(tuple.of as usize);
-    let sizes = sort_sizes(spec, rest[0].sorts());
-    count_all(spec, before) + tuple_place(sizes.as_slice(), tuple.args.as_slice())
+    count_all(spec, before) + place_over(spec, rest[0].sorts(), tuple.args.as_slice())
 }
 
 /// The tuple at a place among those of all that is declared.
