@@ -5,7 +5,7 @@ ghost use Rattle.spec_model.specs.Universe.{below};
 ghost use Rattle.run_model.specs.Points.{missing_of, run_of, runs_of};
 ghost use Rattle.partition_locks.specs.Held.{holds, lies_in, lies_within, IsAbove};
 
-use crate::runs::{clip, missing_in, run_in};
+use crate::runs::{both_in, clip, missing_in, run_in};
 use ind_base::{List, NoMemory, Span};
 use std::alloc::Global;
 use std::marker::Model;
@@ -71,6 +71,14 @@ impl Points {
         ensures { result ≡ run_of (holds self.now) span.now }
     {
         run_in(self.items.as_slice(), span)
+    }
+
+    /// The lowest point of the span that isn't held, and the first run of held points in it.
+    pub fn first_both(&self, span: &Span) -> (Option<u32>, Option<Span>)
+        ensures missing { result.0 ≡ missing_of (holds self.now) span.now }
+        ensures run { result.1 ≡ run_of (holds self.now) span.now }
+    {
+        both_in(self.items.as_slice(), span)
     }
 
     /// The points below one, in runs that are as long as can be.

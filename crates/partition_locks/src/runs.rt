@@ -26,15 +26,16 @@ pub(crate) fn place_of(runs: &[Span], x: u32) -> usize
     low
 }
 
-/// The lowest point of the span that lies in no run.
-pub(crate) fn missing_in(runs: &[Span], span: &Span) -> Option<u32>
-    requires { AreApart 0 runs.now }
+/// The lowest point of the span that lies in no run, by the place of the span's first point.
+fn missing_at(runs: &[Span], at: usize, span: &Span) -> Option<u32>
+    requires apart { AreApart 0 runs.now }
+    requires place { IsPlace runs.now span.now.lo at }
     ensures { result ≡ missing_of (lies_in runs.now) span.now }
 {
     if span.lo > span.hi {
         return None;
     }
-    match runs.get(place_of(runs, span.lo)) {
+    match runs.get(at) {
         None => Some(span.lo),
         Some(run) => if span.lo < run.lo {
             Some(span.lo)
@@ -46,15 +47,16 @@ pub(crate) fn missing_in(runs: &[Span], span: &Span) -> Option<u32>
     }
 }
 
-/// The first run within the span.
-pub(crate) fn run_in(runs: &[Span], span: &Span) -> Option<Span>
-    requires { AreApart 0 runs.now }
+/// The first run within the span, by the place of the span's first point.
+fn run_at(runs: &[Span], at: usize, span: &Span) -> Option<Span>
+    requires apart { AreApart 0 runs.now }
+    requires place { IsPlace runs.now span.now.lo at }
     ensures { result ≡ run_of (lies_in runs.now) span.now }
 {
     if span.lo > span.hi {
         return None;
     }
-    match runs.get(place_of(runs, span.lo)) {
+    match runs.get(at) {
         None => None,
         Some(run) => if span.hi < run.lo {
             None
@@ -65,6 +67,32 @@ pub(crate) fn run_in(runs: &[Span], span: &Span) -> Option<Span>
             })
         },
     }
+}
+
+/// The lowest point of the span that lies in no run.
+pub(crate) fn missing_in(runs: &[Span], span: &Span) -> Option<u32>
+    requires { AreApart 0 runs.now }
+    ensures { result ≡ missing_of (lies_in runs.now) span.now }
+{
+    missing_at(runs, place_of(runs, span.lo), span)
+}
+
+/// The first run within the span.
+pub(crate) fn run_in(runs: &[Span], span: &Span) -> Option<Span>
+    requires { AreApart 0 runs.now }
+    ensures { result ≡ run_of (lies_in runs.now) span.now }
+{
+    run_at(runs, place_of(runs, span.lo), span)
+}
+
+/// The lowest point of the span that lies in no run, and the first run within it, by one search.
+pub(crate) fn both_in(runs: &[Span], span: &Span) -> (Option<u32>, Option<Span>)
+    requires { AreApart 0 runs.now }
+    ensures missing { result.0 ≡ missing_of (lies_in runs.now) span.now }
+    ensures run { result.1 ≡ run_of (lies_in runs.now) span.now }
+{
+    let at = place_of(runs, span.lo);
+    (missing_at(runs, at, span), run_at(runs, at, span))
 }
 
 /// How many points there are from one to another, both counted in.

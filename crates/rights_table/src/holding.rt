@@ -86,10 +86,10 @@ impl Holding {
                 shares: shares.shares,
                 mode: shares.mode,
             },
-            Holding::Points(points) => Held::Points {
-                missing: points.first_missing(span),
-                run: points.first_run(span),
-            },
+            Holding::Points(points) => {
+                let (missing, run) = points.first_both(span);
+                Held::Points { missing, run }
+            }
         }
     }
 
