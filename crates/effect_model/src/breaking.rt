@@ -181,7 +181,9 @@ fn clause_stays<T: Truth>(laid: &Laid<'_, T>, clause: &Clause, front: &[u32]) ->
 }
 
 /// Whether there are few tuples below these sizes.
-fn are_few(sizes: &[u32]) -> bool {
+fn are_few(sizes: &[u32]) -> bool
+    ensures { IsTrue result → (length sizes.now ≤ 2) × AllByRecursion (λ size. size ≤ 4) sizes.now }
+{
     match sizes {
         [size] => *size <= 4,
         [size, other] => *size <= 4 && *other <= 4,
