@@ -1,3 +1,2 @@
-pub mod Acted
 pub mod Walked
 pub mod Linked

@@ -9,7 +9,7 @@ ghost use Rattle.run_model.specs.Fitting.{SetupFits};
 use ind_base::{Args, List, NoMemory, Span, Spans, Text};
 use line_text::ParseError;
 use spec_language::parse_spec;
-use spec_model::{Atom, Broken, Cell, Clause, Inst, Plan, Setup, Spec};
+use spec_model::{Atom, Cell, Clause, Inst, Plan, Setup, Spec};
 use std::alloc::Global;
 
 const SHOP: &str = "sort item 2
@@ -104,14 +104,6 @@ pub(crate) fn inst(op: u32, item: u32) -> Inst {
     let mut args = Spans::new();
     args.push(Span { lo: item, hi: item });
     Inst { op, args }
-}
-
-/// A clause that breaks at these items.
-pub(crate) fn broken(clause: u32, items: &[u32]) -> Broken {
-    Broken {
-        clause,
-        args: args(items),
-    }
 }
 
 /// Whether an item is open, or listed.
