@@ -31,14 +31,17 @@ fn refutation_flaw<'a>(
     queries: &mut Queries<'a>,
 ) -> Result<Option<Why>, NoMemory>
     requires well_formed { IsWellFormed spec.now }
+    requires over { queries.old.over ≡ spec.now }
     requires fits { CaseFits spec.now case.now }
     requires few { length derivation.now.steps ≤ 4294967294 }
-    ensures { IfOk result (λ why. why ≡ checks.target_flaw spec.now case.now case.now.target derivation.now.steps) }
+    ensures why { IfOk result (λ why. why ≡ checks.target_flaw spec.now case.now case.now.target derivation.now.steps) }
+    ensures same { queries.new.over ≡ queries.old.over }
 {
     match case.target {
         Target::Clause(_) => {
-            let cnf = queries.make(alloc, spec, case)?;
-            derivation_flaw(alloc, cnf.clauses.as_slice(), derivation.steps.as_slice())
+            queries.make(alloc, spec, case)?;
+            let clauses = queries.draft.cnf.clauses.as_slice();
+            derivation_flaw(alloc, clauses, derivation.steps.as_slice())
         }
         Target::Locked(_) => Ok(Some(Why::NotSeparated)),
     }
@@ -71,9 +74,11 @@ fn flaw<'a>(
     queries: &mut Queries<'a>,
 ) -> Result<Option<Why>, NoMemory>
     requires well_formed { IsWellFormed spec.now }
+    requires over { queries.old.over ≡ spec.now }
     requires fits { CaseFits spec.now case.now }
     requires few { checks.FewSteps line.now }
-    ensures { IfOk result (λ why. why ≡ checks.flaw spec.now plan.now case.now line.now) }
+    ensures why { IfOk result (λ why. why ≡ checks.flaw spec.now plan.now case.now line.now) }
+    ensures same { queries.new.over ≡ queries.old.over }
 {
     let lock = lowest_lock(spec, case, plan.locks.as_slice());
     let part = lowest_part(spec, case, plan.parts.as_slice());
@@ -109,10 +114,12 @@ fn check_case<'a>(
     queries: &mut Queries<'a>,
 ) -> Result<Walk, NoMemory>
     requires well_formed { IsWellFormed spec.now }
+    requires over { queries.old.over ≡ spec.now }
     requires fits { CaseFits spec.now case.now }
     requires short { AreShort lines.now }
     requires within { at ≤ length lines.now }
-    ensures { IfOk result (λ walk. Walks spec.now plan.now lines.now at (case.now ∷ []) walk) }
+    ensures walk { IfOk result (λ walk. Walks spec.now plan.now lines.now at (case.now ∷ []) walk) }
+    ensures same { queries.new.over ≡ queries.old.over }
 {
     let place = at as usize;
     if place == lines.len() {
@@ -138,11 +145,13 @@ fn check_pair<'a>(
     queries: &mut Queries<'a>,
 ) -> Result<Walk, NoMemory>
     requires well_formed { IsWellFormed spec.now }
+    requires over { queries.old.over ≡ spec.now }
     requires known_a { a < length spec.now.ops }
     requires known_b { b < length spec.now.ops }
     requires short { AreShort lines.now }
     requires within { at ≤ length lines.now }
-    ensures { IfOk result (λ walk. Walks spec.now plan.now lines.now at (pair_cases spec.now a b) walk) }
+    ensures walk { IfOk result (λ walk. Walks spec.now plan.now lines.now at (pair_cases spec.now a b) walk) }
+    ensures same { queries.new.over ≡ queries.old.over }
 {
     let mut at = at;
     let mut left = cases(alloc, spec, a, b)?;
@@ -167,10 +176,12 @@ fn check_row<'a>(
     queries: &mut Queries<'a>,
 ) -> Result<Walk, NoMemory>
     requires well_formed { IsWellFormed spec.now }
+    requires over { queries.old.over ≡ spec.now }
     requires known_a { a < length spec.now.ops }
     requires short { AreShort lines.now }
     requires within { at ≤ length lines.now }
-    ensures { IfOk result (λ walk. Walks spec.now plan.now lines.now at (row_cases spec.now a a) walk) }
+    ensures walk { IfOk result (λ walk. Walks spec.now plan.now lines.now at (row_cases spec.now a a) walk) }
+    ensures same { queries.new.over ≡ queries.old.over }
 {
     let mut at = at;
     for b in a as usize..spec.ops.len() {
@@ -190,7 +201,7 @@ fn check_all(alloc: Global, spec: &Spec, plan: &Plan, lines: &[CertLine]) -> Res
     ensures { IfOk result (λ walk. Walks spec.now plan.now lines.now 0 (cases_from spec.now 0) walk) }
 {
     let mut at = 0;
-    let mut queries = Queries::new(alloc);
+    let mut queries = Queries::new(alloc, spec);
     for a in 0..spec.ops.len() {
         match check_row(alloc, spec, plan, a as u32, lines, at, &mut queries)? {
             Walk::Goes(next) => at = next,

@@ -33,13 +33,15 @@ fn answer<'a>(
     queries: &mut Queries<'a>,
 ) -> Result<Answer, SolveError>
     requires well_formed { IsWellFormed spec.now }
+    requires over { queries.old.over ≡ spec.now }
     requires touched { IsTouchedCase spec.now case.now }
     ensures answer { IfOk result (λ found. IsAnswer (cnf_of spec.now case.now) found) }
     ensures easy { IfOk result (λ found. IsHard spec.now case.now → ⊥) }
     ensures cause { (n : ℕ) → result ≡ Err (errors.TooHard n) → IsHard spec.now case.now × (n ≡ (cnf_of spec.now case.now).vars) }
+    ensures same { queries.new.over ≡ queries.old.over }
 {
-    let cnf = queries.make(alloc, spec, case)?;
-    solve(alloc, cnf)
+    queries.make(alloc, spec, case)?;
+    solve(alloc, &queries.draft.cnf)
 }
 
 /// What is found of a touched case.
@@ -50,10 +52,12 @@ fn found<'a>(
     queries: &mut Queries<'a>,
 ) -> Result<Decided, SolveError>
     requires well_formed { IsWellFormed spec.now }
+    requires over { queries.old.over ≡ spec.now }
     requires touched { IsTouchedCase spec.now case.now }
     ensures decision { IfOk result (λ found. IsDecision spec.now case.now found) }
     ensures easy { IfOk result (λ found. IsHard spec.now case.now → ⊥) }
     ensures cause { (n : ℕ) → result ≡ Err (errors.TooHard n) → IsHard spec.now case.now × (n ≡ (cnf_of spec.now case.now).vars) }
+    ensures same { queries.new.over ≡ queries.old.over }
 {
     if let Target::Locked(_) = case.target {
         return Ok(Decided::Opposes);
@@ -73,6 +77,7 @@ pub fn decide_in<'a>(
     queries: &mut Queries<'a>,
 ) -> Result<Decided, SolveError>
     requires well_formed { IsWellFormed spec.now }
+    requires over { queries.old.over ≡ spec.now }
     requires touched { IsTouchedCase spec.now case.now }
     ensures decision { IfOk result (λ found. IsDecision spec.now case.now found) }
     // It is conflicting exactly where it opposes or has a model.
@@ -82,6 +87,7 @@ pub fn decide_in<'a>(
 
     ensures easy { IfOk result (λ found. IsHard spec.now case.now → ⊥) }
     ensures cause { (n : ℕ) → result ≡ Err (errors.TooHard n) → IsHard spec.now case.now × (n ≡ (cnf_of spec.now case.now).vars) }
+    ensures same { queries.new.over ≡ queries.old.over }
 {
     let decided = found(alloc, spec, case, queries)?;
     Ok(decided)
@@ -101,6 +107,6 @@ pub fn decide(alloc: Global, spec: &Spec, case: &Case) -> Result<Decided, SolveE
     ensures easy { IfOk result (λ found. IsHard spec.now case.now → ⊥) }
     ensures cause { (n : ℕ) → result ≡ Err (errors.TooHard n) → IsHard spec.now case.now × (n ≡ (cnf_of spec.now case.now).vars) }
 {
-    let mut queries = Queries::new(alloc);
+    let mut queries = Queries::new(alloc, spec);
     decide_in(alloc, spec, case, &mut queries)
 }

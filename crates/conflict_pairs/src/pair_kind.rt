@@ -67,7 +67,7 @@ pub fn classify(alloc: Global, spec: &Spec, a: u32, b: u32) -> Result<PairKind, 
     ensures cause { (n : ℕ) → result ≡ Err (errors.TooHard n) → IsStuck spec.now (pair_cases spec.now a b) n }
 {
     let mut opposing = None;
-    let mut queries = Queries::new(alloc);
+    let mut queries = Queries::new(alloc, spec);
     let mut left = cases(alloc, spec, a, b)?;
     'going: while let Some(case) = left.next() {
         let decided = decide_in(alloc, spec, &case, &mut queries)?;

@@ -35,7 +35,7 @@ number_at v (x ∷ xs) (suc i) d apart lt is = elim (cases_Bool (same_variable v
   | inr other ↦ ap suc (number_at v xs i d apart.1 (omega arith) is) ∙ sym (ap (λ b. cond b 0 (suc (index_of (same_variable v) xs))) other)
 ]
 
-each_at : {X : Type 0} (P : X → Type 0) (xs : List X) (i : ℕ) (x : X) → AllByRecursion P xs → slice_get xs i ≡ Some x → P x
+pub each_at : {X : Type 0} (P : X → Type 0) (xs : List X) (i : ℕ) (x : X) → AllByRecursion P xs → slice_get xs i ≡ Some x → P x
 each_at P [] i x h is = absurd (let k : i < 0 = slice_get_within [] i x is in omega arith)
 each_at P (y ∷ ys) zero x h is = subst P (get_or_from_slice_get (y ∷ ys) 0 x y is) h.0
 each_at P (y ∷ ys) (suc i) x h is = each_at P ys i x h.1 is

@@ -19,8 +19,10 @@ pub mod Numbers
 pub mod Once
 pub mod Parts
 pub mod Pruning
+pub mod Without
 pub mod Reaches
 pub mod Refuted
+pub mod Remembering
 pub mod Seen
 pub mod Shapes
 pub mod Shown

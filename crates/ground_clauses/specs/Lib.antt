@@ -9,8 +9,10 @@ pub mod Instances
 pub mod Laws
 pub mod Listing
 pub mod Literals
+pub mod Topics
 pub mod Numbering
 pub mod Query
+pub mod Reached
 pub mod Rows
 pub mod States
 pub mod ThreeStates

@@ -13,6 +13,7 @@ ghost use Rattle.ground_clauses.specs.Listing.{CaseFits, first_bits, second_bits
 use crate::case::{Case, Target};
 use crate::pattern::{class_count, pattern_sorts};
 use crate::places::op_at;
+use crate::reached::both_reach;
 use crate::touched::{has_front, is_touched};
 use crate::walk::Cases;
 use ind_base::{List, NoMemory};
@@ -213,6 +214,7 @@ fn add_shape_cases(shape: &Shape<'_>, found: &mut List<Case>) -> Result<(), NoMe
 }
 
 /// Appends the touched cases of a target.
+#[tactic(auto, using(crate::proofs::Without::idle_target))]
 fn add_target_cases(
     spec: &Spec,
     a: u32,
@@ -226,6 +228,9 @@ fn add_target_cases(
     requires known { TargetKnown spec.now target }
     ensures { OnOk result (found.new ≡ found.old ++ filter (canon.is_touched_case spec.now) (canon.target_cases spec.now a b target)) }
 {
+    if !both_reach(spec, a, b, target) {
+        return Ok(());
+    }
     let sorts = pattern_sorts(spec, a, b, target);
     let shape = Shape {
         spec,

@@ -22,9 +22,10 @@ use crate::instances::{Instance, find_hypotheses, list_atoms};
 use crate::literals::{
     ClauseRoom, KnownForm, KnownLit, denied, literal_form, make_clause, same_moment, same_variable,
 };
+use crate::memory::{Memory, Topic, count_classes};
 use crate::places::clause_at;
 use crate::rows::{Looking, Row, Seen, list_rows, seen_in};
-use crate::slots::Slots;
+use crate::slots::{Slots, note_places};
 use crate::state_lit::{StateLit, Variable};
 use crate::table::{Touches, entry, touches_by};
 use crate::three_states::{OneState, ThreeStates, has_number};
@@ -121,6 +122,7 @@ pub(crate) struct Subject<'a> {
     pub(crate) found: List<Instance<'a>>,
     pub(crate) atoms: List<Atom>,
     pub(crate) slots: Slots,
+    counts: List<u64>,
     touches: List<Touches>,
     pub(crate) variables: List<Variable>,
 }
@@ -133,15 +135,59 @@ impl<'a> Subject<'a> {
             found: List::new(alloc),
             atoms: List::new(alloc),
             slots: Slots::new(alloc),
+            counts: List::new(alloc),
             touches: List::new(alloc),
             variables: List::new(alloc),
         }
     }
 
+    /// Finds the hypotheses of the query of a case about the clause at this place, and their atoms:
+    /// those that are remembered, or anew.
+    fn find_instances(
+        &mut self,
+        alloc: Global,
+        spec: &'a Spec,
+        case: &Case,
+        place: u32,
+        memory: &mut Memory<'a>,
+    ) -> Result<(), NoMemory>
+        requires well_formed { IsWellFormed spec.now }
+        requires over { memory.old ≡ spec.now }
+        requires known { CaseKnown spec.now case.now }
+        requires clause { place < length spec.now.clauses }
+        ensures found { OnOk result (map instance_of self.new.found ≡ cases.case_hypotheses spec.now case.now place) }
+        ensures atoms { OnOk result (self.new.atoms ≡ queries.atoms_of (cases.case_hypotheses spec.now case.now place)) }
+        ensures same { memory.new ≡ memory.old }
+    {
+        count_classes(spec, case, &mut self.counts)?;
+        let topic = Topic {
+            place,
+            classes: target_classes(spec, case),
+            counts: self.counts.as_slice(),
+        };
+        if memory.recall(&topic, &mut self.found, &mut self.atoms)? {
+            note_places(self.atoms.as_slice(), &mut self.slots)?;
+            return Ok(());
+        }
+        find_hypotheses(spec, case, place, &mut self.target, &mut self.found)?;
+        list_atoms(self.found.as_slice(), &mut self.slots, &mut self.atoms)?;
+        let found = self.found.as_slice();
+        memory.keep(alloc, &topic, found, self.atoms.as_slice())?;
+        Ok(())
+    }
+
     /// Finds what the query of a case about the clause at this place is about.
     #[tactic(auto, using(crate::proofs::Bounds::few_made, crate::proofs::Apart::variables_apart))]
-    pub(crate) fn find(&mut self, spec: &'a Spec, case: &Case, place: u32) -> Result<(), NoMemory>
+    pub(crate) fn find(
+        &mut self,
+        alloc: Global,
+        spec: &'a Spec,
+        case: &Case,
+        place: u32,
+        memory: &mut Memory<'a>,
+    ) -> Result<(), NoMemory>
         requires well_formed { IsWellFormed spec.now }
+        requires over { memory.old ≡ spec.now }
         requires fits { CaseFits spec.now case.now }
         requires clause { place < length spec.now.clauses }
         ensures found { OnOk result (map instance_of self.new.found ≡ cases.case_hypotheses spec.now case.now place) }
@@ -150,9 +196,9 @@ impl<'a> Subject<'a> {
         ensures variables { OnOk result (self.new.variables ≡ flat_map (queries.atom_variables spec.now (cases.case_sets spec.now case.now)) self.new.atoms) }
         ensures few { OnOk result (length self.new.variables < 2 ^ 32) }
         ensures apart { OnOk result (AreApart self.new.variables) }
+        ensures same { memory.new ≡ memory.old }
     {
-        find_hypotheses(spec, case, place, &mut self.target, &mut self.found)?;
-        list_atoms(self.found.as_slice(), &mut self.slots, &mut self.atoms)?;
+        self.find_instances(alloc, spec, case, place, memory)?;
         list_variables(
             spec,
             case,
@@ -190,8 +236,8 @@ pub(crate) struct Asked<'a> {
 
 /// The clauses of a query that is being made, and lists of earlier clauses that are used again.
 #[derive(Drop)]
-pub(crate) struct Draft {
-    pub(crate) cnf: Cnf,
+pub struct Draft {
+    pub cnf: Cnf,
     spare: List<List<Lit>>,
 }
 
@@ -572,23 +618,30 @@ fn make_query(
     Ok(())
 }
 
-/// Room in which queries are made, one after another: each takes the lists that the last one had.
+/// Room in which queries of one specification are made, one after another: each takes the lists that
+/// the last one had, and the hypotheses that are remembered.
 #[derive(Drop)]
 pub struct Queries<'a> {
+    /// The specification, as contracts see it.
+    pub over: Memory<'a>,
+    /// The query that was made last.
+    pub draft: Draft,
     subject: Subject<'a>,
     rows: List<Row>,
     room: Room,
-    draft: Draft,
 }
 
 impl<'a> Queries<'a> {
     /// Room that has no lists yet. It takes no memory.
-    pub fn new(alloc: Global) -> Queries<'a> {
+    pub fn new(alloc: Global, spec: &'a Spec) -> Queries<'a>
+        ensures { result.over ≡ spec.now }
+    {
         Queries {
+            over: Memory::new(alloc, spec),
+            draft: Draft::new(alloc),
             subject: Subject::new(alloc),
             rows: List::new(alloc),
             room: Room::new(alloc),
-            draft: Draft::new(alloc),
         }
     }
 
@@ -602,11 +655,13 @@ impl<'a> Queries<'a> {
         place: u32,
     ) -> Result<(), NoMemory>
         requires well_formed { IsWellFormed spec.now }
+        requires over { self.old.over ≡ spec.now }
         requires fits { CaseFits spec.now case.now }
         requires clause { place < length spec.now.clauses }
-        ensures { OnOk result (self.new.draft.cnf ≡ cases.clause_cnf spec.now case.now place) }
+        ensures made { OnOk result (self.new.draft.cnf ≡ cases.clause_cnf spec.now case.now place) }
+        ensures same { self.new.over ≡ self.old.over }
     {
-        self.subject.find(spec, case, place)?;
+        self.subject.find(alloc, spec, case, place, &mut self.over)?;
         let subject = &self.subject;
         let variables = subject.variables.as_slice();
         let vars = variables.len() as u32;
@@ -638,11 +693,16 @@ impl<'a> Queries<'a> {
         Ok(())
     }
 
-    /// Makes the query of a case.
-    fn fill(&mut self, alloc: Global, spec: &'a Spec, case: &Case) -> Result<(), NoMemory>
+    /// Makes the query of a case, as `query` gives it, in place of the last one. Whatever a call left
+    /// here, also one that wanted memory, the next query is that of its case.
+    #[tactic(auto, using(crate::proofs::Speaking::query_speaks))]
+    pub fn make(&mut self, alloc: Global, spec: &'a Spec, case: &Case) -> Result<(), NoMemory>
         requires well_formed { IsWellFormed spec.now }
+        requires over { self.old.over ≡ spec.now }
         requires fits { CaseFits spec.now case.now }
-        ensures { OnOk result (self.new.draft.cnf ≡ cases.cnf_of spec.now case.now) }
+        ensures value { OnOk result (self.new.draft.cnf ≡ cases.cnf_of spec.now case.now) }
+        ensures own { cases.is_touched_case spec.now case.now ≡ true → SpeaksOf (cases.cnf_of spec.now case.now).vars (cases.cnf_of spec.now case.now).clauses }
+        ensures same { self.new.over ≡ self.old.over }
     {
         match case.target {
             Target::Clause(place) => self.make_clause_query(alloc, spec, case, place),
@@ -652,19 +712,6 @@ impl<'a> Queries<'a> {
                 Ok(())
             }
         }
-    }
-
-    /// The query of a case, as `query` gives it, in place of the last one. Whatever a call left
-    /// here, also one that wanted memory, the next query is that of its case.
-    #[tactic(auto, using(crate::proofs::Speaking::query_speaks))]
-    pub fn make(&mut self, alloc: Global, spec: &'a Spec, case: &Case) -> Result<&Cnf, NoMemory>
-        requires well_formed { IsWellFormed spec.now }
-        requires fits { CaseFits spec.now case.now }
-        ensures value { IfOk result (λ cnf. cnf.now ≡ cases.cnf_of spec.now case.now) }
-        ensures own { cases.is_touched_case spec.now case.now ≡ true → SpeaksOf (cases.cnf_of spec.now case.now).vars (cases.cnf_of spec.now case.now).clauses }
-    {
-        self.fill(alloc, spec, case)?;
-        Ok(&self.draft.cnf)
     }
 }
 
@@ -677,8 +724,8 @@ pub fn query(alloc: Global, spec: &Spec, case: &Case) -> Result<Cnf, NoMemory>
     ensures value { IfOk result (λ cnf. cnf ≡ cases.cnf_of spec.now case.now) }
     ensures own { cases.is_touched_case spec.now case.now ≡ true → SpeaksOf (cases.cnf_of spec.now case.now).vars (cases.cnf_of spec.now case.now).clauses }
 {
-    let mut queries = Queries::new(alloc);
-    queries.fill(alloc, spec, case)?;
+    let mut queries = Queries::new(alloc, spec);
+    queries.make(alloc, spec, case)?;
     let Queries { draft, .. } = queries;
     Ok(draft.into_cnf())
 }

@@ -3,6 +3,7 @@
 ghost use Rattle.std.specs.Prelude.{◌<◌};
 
 use ind_base::NoMemory;
+use spec_model::Atom;
 use std::alloc::Global;
 
 /// For each atom, by a number that is made of it, a place at which it may stand in a list. What is
@@ -82,4 +83,25 @@ impl Slots {
         }
         Ok(())
     }
+}
+
+/// The number of an atom, by its first three classes.
+fn code_of(atom: &Atom) -> usize
+    ensures { result < 110592 }
+{
+    let args = atom.args.as_slice();
+    code(
+        atom.pred,
+        class_of(args, 0),
+        class_of(args, 1),
+        class_of(args, 2),
+    )
+}
+
+/// Notes the place of each of these atoms.
+pub(crate) fn note_places(atoms: &[Atom], slots: &mut Slots) -> Result<(), NoMemory> {
+    for (place, atom) in atoms.iter().enumerate() {
+        slots.note(code_of(atom), place)?;
+    }
+    Ok(())
 }

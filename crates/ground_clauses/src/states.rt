@@ -8,6 +8,7 @@ ghost use Rattle.ground_clauses.specs.States as states;
 ghost use Rattle.ground_clauses.specs.declared.case.Target.TheVariants as targets;
 
 use crate::case::{Case, Target};
+use crate::memory::Memory;
 use crate::queries::{Asked, Subject, number_of};
 use crate::state_lit::Variable;
 use crate::table::{entry_at, winner};
@@ -91,8 +92,9 @@ fn clause_states(
     requires clause { place < length spec.now.clauses }
     ensures { IfOk result (λ found. found ≡ states.target_states spec.now case.now model.now (targets.Clause place)) }
 {
+    let mut memory = Memory::new(alloc, spec);
     let mut subject = Subject::new(alloc);
-    subject.find(spec, case, place)?;
+    subject.find(alloc, spec, case, place, &mut memory)?;
     let asked = Asked {
         spec,
         case,

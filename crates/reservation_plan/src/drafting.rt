@@ -103,12 +103,14 @@ impl Draft {
         queries: &mut Queries<'a>,
     ) -> Result<(), DeriveError>
         requires well_formed { IsWellFormed spec.now }
+        requires over { queries.old.over ≡ spec.now }
         requires known_a { pair.a < length spec.now.ops }
         requires known_b { pair.b < length spec.now.ops }
         requires few_locks { length self.old.locks ≤ 4096 }
         requires few_parts { length self.old.parts ≤ 4096 }
         ensures ok { IfOk result (λ _. AddsPair spec.now pair self.old self.new) }
         ensures err { IfErr result (λ e. Refuses spec.now (pair_cases spec.now pair.a pair.b) e) }
+        ensures same { queries.new.over ≡ queries.old.over }
     {
         let judgements = judge_pair(alloc, spec, pair, queries)?;
         let conflict = Conflict {

@@ -36,10 +36,12 @@ fn find_out<'a>(
     queries: &mut Queries<'a>,
 ) -> Result<Finding, DeriveError>
     requires well_formed { IsWellFormed spec.now }
+    requires over { queries.old.over ≡ spec.now }
     requires touched { IsTouchedCase spec.now case.now }
     ensures finding { IfOk result (λ found. IsFinding spec.now case.now found) }
     ensures easy { IfOk result (λ _. is_hard spec.now case.now ≡ false) }
     ensures cause { IfErr result (λ e. Refuses spec.now (case.now ∷ []) e) }
+    ensures same { queries.new.over ≡ queries.old.over }
 {
     match decide_in(alloc, spec, case, queries) {
         Ok(Decided::Opposes) => Ok(Finding::Conflicts(None)),
@@ -132,9 +134,11 @@ impl Judgements {
         queries: &mut Queries<'a>,
     ) -> Result<(), DeriveError>
         requires well_formed { IsWellFormed spec.now }
+        requires over { queries.old.over ≡ spec.now }
         requires touched { IsTouchedCase spec.now case.now }
         ensures ok { IfOk result (λ _. JudgesMore spec.now case.now self.old self.new) }
         ensures err { IfErr result (λ e. Refuses spec.now (case.now ∷ []) e) }
+        ensures same { queries.new.over ≡ queries.old.over }
     {
         match find_out(alloc, spec, case, queries)? {
             Finding::Harmless(derivation) => {
@@ -160,10 +164,12 @@ pub(crate) fn judge_pair<'a>(
     queries: &mut Queries<'a>,
 ) -> Result<Judgements, DeriveError>
     requires well_formed { IsWellFormed spec.now }
+    requires over { queries.old.over ≡ spec.now }
     requires known_a { pair.a < length spec.now.ops }
     requires known_b { pair.b < length spec.now.ops }
     ensures ok { IfOk result (λ j. Judges spec.now (pair_cases spec.now pair.a pair.b) j) }
     ensures err { IfErr result (λ e. Refuses spec.now (pair_cases spec.now pair.a pair.b) e) }
+    ensures same { queries.new.over ≡ queries.old.over }
 {
     let mut judgements = Judgements::none(alloc);
     let mut left = cases(alloc, spec, pair.a, pair.b)?;

@@ -57,7 +57,7 @@ fn draft_all(alloc: Global, spec: &Spec) -> Result<Draft, DeriveError>
 {
     let pairs = pairs_of(alloc, spec)?;
     let mut draft = Draft::none(alloc);
-    let mut queries = Queries::new(alloc);
+    let mut queries = Queries::new(alloc, spec);
     for pair in pairs.as_slice() {
         draft.add_pair(alloc, spec, *pair, &mut queries)?;
     }
